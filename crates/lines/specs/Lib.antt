@@ -1,0 +1,3 @@
+pub mod Field
+pub mod Lines
+pub mod Values

@@ -1,0 +1,10 @@
+pub mod Below
+pub mod Value
+pub mod View
+pub mod Flags
+pub mod Links
+pub mod Names
+pub mod Asked
+pub mod Records
+pub mod Vetoes
+pub mod Causes

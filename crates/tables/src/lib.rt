@@ -1,0 +1,16 @@
+// Link tables: what one means, the questions that every table answers, the table over records, and vetoes.
+ghost use Rattle.tables.specs.Links.{canon, endless, Chains};
+
+pub mod fault;
+pub mod parts;
+pub mod records;
+pub mod table;
+pub mod thing;
+pub mod veto;
+
+// A link chain ends at `canon`, or it is endless.
+pub fn chains_end() -> u8
+    ensures { λ _. ⌜ Chains canon endless ⌝ }
+{
+    0
+}

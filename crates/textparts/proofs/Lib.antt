@@ -1,0 +1,5 @@
+mod Digits
+mod Bodies
+mod Spent
+pub mod Whole
+pub mod Found

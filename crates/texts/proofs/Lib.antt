@@ -1,0 +1,4 @@
+mod Cuts
+mod Parts
+mod Trees
+mod Times

@@ -1,0 +1,4 @@
+pub mod Form
+pub mod Cut
+pub mod Exact
+pub mod Rows

@@ -1,0 +1,20 @@
+use mathlib.Core.Path.{refl, ap, _∙_}
+use Rattle.std.specs.declared.option.Option.the-variants.{Some}
+use Rattle.texts.specs.Rows.{textValue}
+use Rattle.texttable.specs.Texts.{meaningOf}
+use Rattle.textparts.proofs.Found.{symbol-answer}
+use Rattle.texttable.proofs.table.TextLinkTable.symbol.Needs as need
+
+pub returns-in-Break-n : need.returns-in-Break-n
+unfolding meaningOf
+returns-in-Break-n c = record {
+  answer = c .from-residual .ensures ∙ symbol-answer (textValue (c .args .self .now .rows)) (c .args .s) _ (c .in-Break-n .ensures tt);
+  kept = refl;
+}
+
+pub returns : need.returns
+unfolding meaningOf
+returns c = record {
+  answer = ap Some (c .symbol-of .ensures) ∙ symbol-answer (textValue (c .args .self .now .rows)) (c .args .s) _ (c .in-Continue-n .ensures tt);
+  kept = refl;
+}
