@@ -1,6 +1,8 @@
 // A line by its letter, fields and name, whatever its kind.
 ghost use mathlib.Core.Path.{_≡_};
+ghost use mathlib.Core.List.{[], _∷_};
 ghost use Prim.Native.Nat.{_<_};
+ghost use Rattle.std.specs.declared.option.Option.the-variants.{Some, None};
 ghost use Rattle.lines.specs.Lines.{values, optionalAt, numberAt};
 ghost use Rattle.lines.specs.Values.{lineValue, fieldsValue};
 use crate::line::Line;
@@ -13,11 +15,24 @@ pub struct LineFields<'t> {
     pub name: &'t [u8],
 }
 
-// A line of a kind with these fields; a kind without a name has an empty one.
-fn line_of<'t>(kind: u8, fields: [Option<u32>; 5], name: &'t [u8]) -> LineFields<'t>
+fn named<'t>(kind: u8, fields: [Option<u32>; 5], name: &'t [u8]) -> LineFields<'t>
     ensures { λ r. ⌜ fieldsValue r ≡ values kind fields (now (name .entry)) ⌝ }
 {
     LineFields { kind, fields, name }
+}
+
+// A line without a name.
+fn unnamed<'t>(kind: u8, fields: [Option<u32>; 5]) -> LineFields<'t>
+    ensures { λ r. ⌜ fieldsValue r ≡ values kind fields [] ⌝ }
+{
+    named(kind, fields, &[])
+}
+
+// A line of one number.
+fn single<'t>(kind: u8, n: u32) -> LineFields<'t>
+    ensures { λ r. ⌜ fieldsValue r ≡ values kind (Some n ∷ None ∷ None ∷ None ∷ None ∷ []) [] ⌝ }
+{
+    unnamed(kind, [Some(n), None, None, None, None])
 }
 
 impl<'t> Line<'t> {
@@ -26,66 +41,43 @@ impl<'t> Line<'t> {
     {
         match self {
             Line::Table {
-                modules,
-                entries,
-                symbols,
+                modules: m,
+                entries: e,
+                symbols: s,
                 runtime,
-                strict,
-            } => line_of(
-                b'T',
-                [
-                    Some(modules),
-                    Some(entries),
-                    Some(symbols),
-                    runtime,
-                    Some(strict),
-                ],
-                &[],
-            ),
+                strict: t,
+            } => unnamed(b'T', [Some(m), Some(e), Some(s), runtime, Some(t)]),
             Line::Module {
-                flags,
-                namespace,
-                wrapper,
+                flags: f,
+                namespace: n,
+                wrapper: w,
                 wrap,
-            } => line_of(
-                b'M',
-                [Some(flags), namespace, wrapper, Some(wrap), None],
-                &[],
-            ),
-            Line::Load(n) => line_of(b'L', [Some(n), None, None, None, None], &[]),
-            Line::Dependency(n) => line_of(b'D', [Some(n), None, None, None, None], &[]),
-            Line::Resolved(n) => line_of(b'R', [Some(n), None, None, None, None], &[]),
-            Line::Reference(n) => line_of(b'U', [Some(n), None, None, None, None], &[]),
+            } => unnamed(b'M', [Some(f), n, w, Some(wrap), None]),
+            Line::Load(n) => single(b'L', n),
+            Line::Dependency(n) => single(b'D', n),
+            Line::Resolved(n) => single(b'R', n),
+            Line::Reference(n) => single(b'U', n),
             Line::Export {
                 symbol,
-                commonjs,
+                commonjs: c,
                 name,
-            } => line_of(b'X', [Some(symbol), Some(commonjs), None, None, None], name),
-            Line::Partial(name) => line_of(b'P', [None, None, None, None, None], name),
-            Line::Entry { root, flags } => line_of(
+            } => named(b'X', [Some(symbol), Some(c), None, None, None], name),
+            Line::Partial(name) => named(b'P', [None, None, None, None, None], name),
+            Line::Entry { root: r, flags: f } => unnamed(
                 b'E',
-                [Some(root), Some(flags), None, None, None],
-                &[],
+                [Some(r), Some(f), None, None, None],
             ),
             Line::Site {
-                importer,
-                resolved,
-                flags,
-            } => line_of(
-                b'I',
-                [Some(importer), resolved, Some(flags), None, None],
-                &[],
-            ),
+                importer: i,
+                resolved: r,
+                flags: f,
+            } => unnamed(b'I', [Some(i), r, Some(f), None, None]),
             Line::Symbol {
-                owner,
+                owner: o,
                 link,
                 alias,
-                flags,
-            } => line_of(
-                b'S',
-                [Some(owner), Some(link), alias, Some(flags), None],
-                &[],
-            ),
+                flags: f,
+            } => unnamed(b'S', [Some(o), Some(link), alias, Some(f), None]),
         }
     }
 }

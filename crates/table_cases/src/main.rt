@@ -1,5 +1,10 @@
 // Link tables on examples: the first fault of texts that break the form, and one value as a text and as records. What it
 // writes is held to the file stdout.
+use records::EntryRecord;
+use records::Header;
+use records::ModuleRecord;
+use records::RecordLinkTable;
+use records::RecordTable;
 use std::alloc::AllocError;
 use std::alloc::Global;
 use std::error::AnyError;
@@ -9,11 +14,6 @@ use tables::parts::Export;
 use tables::parts::ModuleInfo;
 use tables::parts::Site;
 use tables::parts::Symbol;
-use tables::records::EntryRecord;
-use tables::records::Header;
-use tables::records::ModuleRecord;
-use tables::records::RecordLinkTable;
-use tables::records::RecordTable;
 use tables::table::LinkTable;
 use tables::thing::ModuleList;
 use texttable::TextLinkTable;

@@ -1,3 +1,2 @@
 mod Found
-mod Items
 mod Links

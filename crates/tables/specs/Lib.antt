@@ -5,6 +5,5 @@ pub mod Flags
 pub mod Links
 pub mod Names
 pub mod Asked
-pub mod Records
 pub mod Vetoes
 pub mod Causes

@@ -1,9 +1,8 @@
-// Link tables: what one means, the questions that every table answers, the table over records, and vetoes.
+// Link tables: what one means, the questions that every table answers, faults, and vetoes.
 ghost use Rattle.tables.specs.Links.{canon, endless, Chains};
 
 pub mod fault;
 pub mod parts;
-pub mod records;
 pub mod table;
 pub mod thing;
 pub mod veto;

@@ -1,0 +1,10 @@
+pub mod Below
+pub mod Graph
+pub mod Classes
+pub mod Bits
+pub mod Atoms
+pub mod Loads
+pub mod Cover
+pub mod Plan
+pub mod Laws
+pub mod Cases

@@ -1,0 +1,11 @@
+pub mod Graph
+pub mod Classes
+pub mod Bits
+pub mod Targets
+pub mod Cover
+pub mod Rules
+pub mod Plan
+pub mod Lines
+pub mod Checks
+pub mod Laws
+pub mod Cases

@@ -1,0 +1,5 @@
+pub mod Edges
+pub mod Spreading
+pub mod Backs
+pub mod Marks
+pub mod Covering

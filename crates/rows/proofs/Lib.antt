@@ -1,0 +1,4 @@
+pub mod Counts
+pub mod Digits
+pub mod Laws
+pub mod Words
