@@ -1,2 +1,3 @@
 mod Found
 mod Links
+pub mod Mapped

@@ -11,6 +11,7 @@ use Rattle.std.specs.Options.{mapped}
 use Rattle.std.specs.declared.option.Option.{Option}
 use Rattle.std.specs.declared.option.Option.the-variants.{Some, None}
 use Rattle.std.specs.declared.vec.Vec.{Vec}
+use Rattle.tables.proofs.Mapped.{nth-map}
 use Rattle.tables.specs.Asked.{listOf, listIn, infoOf, entryInfoOf, moduleAt, entryAt, itemAt, exportAt, partialAt, siteAt, symbolAt}
 use Rattle.tables.specs.Value.{Export}
 use Rattle.tables.specs.declared.parts.Site.{Site}
@@ -25,11 +26,6 @@ use Rattle.texts.specs.Form.{LineAt, ModuleLines, EntryLines, TextLines, place}
 use Rattle.texts.specs.Rows.{numberedValue}
 use Rattle.textparts.specs.Said.{numberOf, exportOf, nameOf, siteOf, symbolOf, moduleOf, entryOf, tableOf}
 use Rattle.textparts.specs.Places.{linesIn, lineIn, lineColumn, placeIn}
-
-nth-map : {X Y : Type 0} (f : X → Y) (xs : List X) (i : ℕ) → nth (map f xs) i ≡ mapped f (nth xs i)
-nth-map f [] i = refl
-nth-map f (x ∷ xs) zero = refl
-nth-map f (x ∷ xs) (suc i) = nth-map f xs i
 
 -- o is what a slice over the rows has at i
 pub row-there : {X Y : Type 0} (f : X → Y) (slice xs : List X) (i : ℕ) (o : Option X) → slice ≡ xs → o ≡ nth slice i → nth (map f xs) i ≡ mapped f o

@@ -2,7 +2,7 @@ use mathlib.Core.Path.{refl, sym, ap, _∙_}
 use lib.ListN.{length, length-map}
 use Rattle.tables.specs.Asked.{listOf}
 use Rattle.records.specs.Records.{moduleOf}
-use Rattle.records.proofs.Mapped.{nth-map-read}
+use Rattle.tables.proofs.Mapped.{nth-map-read}
 use Rattle.records.proofs.export_count.Needs as need
 
 pub returns-in-rest : need.returns-in-rest

@@ -1,7 +1,7 @@
 use mathlib.Core.Path.{sym, ap, _∙_}
 use Rattle.tables.specs.Asked.{present}
 use Rattle.records.specs.Records.{moduleOf, entryOf, tableOf}
-use Rattle.records.proofs.Mapped.{ltb-mapped}
+use Rattle.tables.proofs.Mapped.{ltb-mapped}
 use Rattle.records.proofs.has.Needs as need
 
 pub returns-in-Module : need.returns-in-Module

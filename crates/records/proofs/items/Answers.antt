@@ -1,7 +1,7 @@
 use mathlib.Core.Path.{sym, ap, _∙_}
 use Rattle.tables.specs.Asked.{listIn, listOf}
 use Rattle.records.specs.Records.{moduleOf}
-use Rattle.records.proofs.Mapped.{nth-map-read}
+use Rattle.tables.proofs.Mapped.{nth-map-read}
 use Rattle.records.proofs.items.Needs as need
 
 pub returns-in-rest : need.returns-in-rest

@@ -1,7 +1,7 @@
 use mathlib.Core.Path.{sym, ap}
 use Rattle.tables.specs.Asked.{listOf}
 use Rattle.records.specs.Records.{entryOf}
-use Rattle.records.proofs.Mapped.{nth-map-read}
+use Rattle.tables.proofs.Mapped.{nth-map-read}
 use Rattle.records.proofs.sites.Needs as need
 
 pub returns-in-rest : need.returns-in-rest

@@ -2,7 +2,7 @@ use mathlib.Core.Path.{refl, sym, ap, _∙_}
 use Rattle.std.specs.Options.{mapped}
 use Rattle.tables.specs.Asked.{entryInfoOf}
 use Rattle.records.specs.Records.{entryOf}
-use Rattle.records.proofs.Mapped.{nth-map-read}
+use Rattle.tables.proofs.Mapped.{nth-map-read}
 use Rattle.records.proofs.RecordLinkTable.entry.Needs as need
 
 pub returns-in-Break-row : need.returns-in-Break-row

@@ -3,7 +3,7 @@ use Rattle.std.specs.Options.{mapped}
 use Rattle.std.specs.Finite.{nth}
 use Rattle.tables.specs.Asked.{listOf, exportValue}
 use Rattle.records.specs.Records.{moduleOf}
-use Rattle.records.proofs.Mapped.{nth-map-read}
+use Rattle.tables.proofs.Mapped.{nth-map-read}
 use Rattle.records.proofs.RecordLinkTable.export.Needs as need
 
 pub returns-in-Break-row : need.returns-in-Break-row

@@ -3,7 +3,7 @@ use lib.ListN.{length-map}
 use Rattle.std.specs.Options.{mapped}
 use Rattle.tables.specs.Asked.{infoOf}
 use Rattle.records.specs.Records.{moduleOf}
-use Rattle.records.proofs.Mapped.{nth-map-read}
+use Rattle.tables.proofs.Mapped.{nth-map-read}
 use Rattle.records.proofs.RecordLinkTable.module.Needs as need
 
 pub returns-in-Break-row : need.returns-in-Break-row

@@ -1,0 +1,4 @@
+pub mod Counting
+pub mod Scans
+pub mod Walks
+pub mod Within
