@@ -5,7 +5,7 @@ ghost use mathlib.Core.List.{List};
 ghost use Prim.Native.Nat.{ℕ};
 ghost use Rattle.tables.specs.Vetoes.{among, anyAmong};
 
-// What a bureau may have against folding an atom's modules into another chunk: the same answer whenever it is asked.
+// Whether folding an atom's modules into another chunk is objected to: the same answer whenever it is asked.
 pub trait Veto {
     ghost objects: { Self → List ℕ → Bool };
 
