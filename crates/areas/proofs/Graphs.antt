@@ -1,12 +1,11 @@
 -- The graph of atoms that two relations of modules give together.
-use mathlib.Core.Path.{◌≡◌, refl, sym, ap, ◌∙◌}
-use mathlib.Core.Bool.{Bool, true, false, not, cond, ◌&&◌, ◌||◌}
-use mathlib.Core.List.{List}
-use Prim.Native.Nat.{ℕ, zero, suc, ◌<◌}
+use mathlib.Core.Path.{◌≡◌, refl, ap, ◌∙◌}
+use mathlib.Core.Bool.{Bool, true, false, not, ◌&&◌, ◌||◌}
+use Prim.Native.Nat.{ℕ, zero, suc}
 use lib.Dec.{eqb}
 use Rattle.tables.specs.Below.{some_below, is}
 use Rattle.tables.specs.View.{View, module_count}
-use Rattle.definitions.specs.Bits.{atom, atoms}
+use Rattle.definitions.specs.Bits.{atom}
 use Rattle.definitions.specs.Targets.{atom_graph}
 
 or_swap : (a b c d : Bool) → ((a || b) || (c || d)) ≡ ((a || c) || (b || d))
@@ -47,8 +46,8 @@ atom_graph_or t p q a b =
         (some_same n _ (λ d. inner p m d || inner q m d) (λ d. and_or (is (atom t d) b) (p m d) (q m d)) ∙ some_or n (inner p m) (inner q m))
         ∙ and_or (is (atom t m) a) (some_below n (inner p m)) (some_below n (inner q m))
 
-pub atom_graph-same : (t : View) (p q : ℕ → ℕ → Bool) → ((m d : ℕ) → p m d ≡ q m d) → (a b : ℕ) → atom_graph t p a b ≡ atom_graph t q a b
+pub atom_graph_same : (t : View) (p q : ℕ → ℕ → Bool) → ((m d : ℕ) → p m d ≡ q m d) → (a b : ℕ) → atom_graph t p a b ≡ atom_graph t q a b
 unfolding atom_graph
-atom_graph-same t p q e a b =
+atom_graph_same t p q e a b =
     ap (λ x. not (eqb a b) && x)
     (some_same (module_count t) _ _ (λ m. ap (λ x. is (atom t m) a && x) (some_same (module_count t) _ _ (λ d. ap (λ x. is (atom t d) b && x) (e m d)))))

@@ -1,4 +1,6 @@
 // Where everything stands in the words of a plan, and what each part says of a table.
+#![tactic(auto)]
+
 ghost use Rattle.std.specs.Prelude.{◌≡◌, ◌≤◌};
 ghost use Rattle.areas.specs.Areas.{areas_of};
 

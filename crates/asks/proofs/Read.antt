@@ -1,13 +1,12 @@
 -- What a table's answers say of its view.
-use Rattle.std.proofs.Common.{◌≡◌, ℕ, zero, suc, ◌<◌, ◌≤◌, List, [], ◌∷◌, length, get_or, Some, None, Option, refl, ap, arith}
+use Rattle.std.proofs.Common.{◌≡◌, ℕ, zero, suc, ◌<◌, ◌≤◌, List, [], ◌∷◌, length, get_or, Some, None, refl, ap, arith}
 use Rattle.std.specs.List.{slice_get}
 use Rattle.std.specs.Option.{option_map}
-use Rattle.tables.specs.Value.{Table, Module, Entry, Export}
+use Rattle.tables.specs.Value.{Table}
 use Rattle.tables.specs.View.{view, module_at, symbol_at, no_module, no_entry, no_symbol}
 use Rattle.tables.specs.Asked.{info_of, entry_info_of, table_module, table_entry, table_symbol, list_in, list_of, items_of, exports_of, partials_of, sites_of}
 use Rattle.tables.specs.declared.parts.ModuleInfo.{ModuleInfo}
 use Rattle.tables.specs.declared.parts.EntryInfo.{EntryInfo}
-use Rattle.tables.specs.declared.parts.Site.{Site}
 use Rattle.tables.specs.declared.parts.Symbol.{Symbol}
 use Rattle.tables.specs.declared.thing.ModuleList.{ModuleList}
 use Rattle.tables.specs.declared.thing.ModuleList.TheVariants.{Loads, Dependencies, Resolved, References}

@@ -1,7 +1,7 @@
 -- The walk along a chain of links.
 use Rattle.std.proofs.Common.{◌≡◌, ℕ, zero, suc, ◌+◌, ◌-◌, ◌<◌, ◌≤◌, length, Some, None, Option, sym, refl, ap, ◌∙◌, arith}
 use Rattle.tables.specs.Value.{Table}
-use Rattle.tables.specs.View.{View, view, symbol_count, symbol_at}
+use Rattle.tables.specs.View.{View, view, symbol_at}
 use Rattle.tables.specs.Links.{linked, canon, alias, served}
 
 -- after `done` links of n, what is left leads where the whole walk from s leads

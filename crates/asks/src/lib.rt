@@ -1,4 +1,6 @@
 // Questions to any table, answered in the words of the definitions: what a number that names nothing has is nothing.
+#![tactic(auto)]
+
 ghost use Rattle.std.specs.Prelude.{◌≡◌, length};
 ghost use Rattle.tables.specs.View.{view, module_at, symbol_at};
 ghost use Rattle.tables.specs.Links.{canon, served};
@@ -8,8 +10,8 @@ use tables::table::LinkTable;
 
 // The flags of module `m`; none where there is no such module.
 pub fn flags_of<'t, T: LinkTable<'t>>(table: &mut T, m: usize) -> u32
-    ensures answer { result ≡ (module_at (view (means table.old).table) m).flags }
-    ensures kept { means table.new ≡ means table.old }
+    ensures answer { result ≡ (module_at (view (T.means table.old).table) m).flags }
+    ensures kept { T.means table.new ≡ T.means table.old }
 {
     match table.module(m) {
         Some(info) => info.flags,
@@ -19,8 +21,8 @@ pub fn flags_of<'t, T: LinkTable<'t>>(table: &mut T, m: usize) -> u32
 
 // Symbol `s`; where there is none, one without alias and flags, whose numbers are 0.
 pub fn symbol_of<'t, T: LinkTable<'t>>(table: &mut T, s: usize) -> Symbol
-    ensures answer { result ≡ symbol_at (view (means table.old).table) s }
-    ensures kept { means table.new ≡ means table.old }
+    ensures answer { result ≡ symbol_at (view (T.means table.old).table) s }
+    ensures kept { T.means table.new ≡ T.means table.old }
 {
     match table.symbol(s) {
         Some(symbol) => symbol,
@@ -35,9 +37,9 @@ pub fn symbol_of<'t, T: LinkTable<'t>>(table: &mut T, s: usize) -> Symbol
 
 // The end of the chain of links from symbol `s`, of `symbols` symbols.
 pub fn canonical<'t, T: LinkTable<'t>>(table: &mut T, symbols: usize, s: usize) -> usize
-    requires { symbols ≡ length (means table.old).table.symbols }
-    ensures answer { result ≡ canon (view (means table.old).table) s }
-    ensures kept { means table.new ≡ means table.old }
+    requires { symbols ≡ length (T.means table.old).table.symbols }
+    ensures answer { result ≡ canon (view (T.means table.old).table) s }
+    ensures kept { T.means table.new ≡ T.means table.old }
 {
     let mut at = s;
     for i in 0..symbols {
@@ -52,9 +54,9 @@ pub fn canonical<'t, T: LinkTable<'t>>(table: &mut T, symbols: usize, s: usize) 
 
 // The alias symbol of the end of the chain from symbol `s`, or else the end itself.
 pub fn served_symbol<'t, T: LinkTable<'t>>(table: &mut T, symbols: usize, s: usize) -> usize
-    requires { symbols ≡ length (means table.old).table.symbols }
-    ensures answer { result ≡ served (view (means table.old).table) s }
-    ensures kept { means table.new ≡ means table.old }
+    requires { symbols ≡ length (T.means table.old).table.symbols }
+    ensures answer { result ≡ served (view (T.means table.old).table) s }
+    ensures kept { T.means table.new ≡ T.means table.old }
 {
     let end = canonical(table, symbols, s);
     match symbol_of(table, end).alias {

@@ -3,50 +3,50 @@ use Rattle.std.proofs.Common.{◌≡◌, ℕ, ◌+◌, ◌-◌, ◌*◌, ◌/◌
 use Rattle.std.proofs.lemmas.Bool.{cases_eq, cases_Bool, both_ways}
 use Rattle.std.proofs.lemmas.Bool.Decides.{same_from_decides}
 use Rattle.tables.specs.Value.{Table}
-use Rattle.rows.specs.Bits.{bit, has as has-bit}
+use Rattle.rows.specs.Bits.{bit, has as has_bit}
 use Rattle.reach.specs.declared.Places.{Places}
 use Rattle.reach.specs.Paths.{Way, Closed, Reached}
 use Rattle.reach.specs.Shape.{Edge}
 use Rattle.reach.specs.Memory.{bit_of, marked, Room, Frame, Ready}
-use Rattle.reach.proofs.Parts.{has-marks}
+use Rattle.reach.proofs.Parts.{has_marks}
 use Rattle.tables.specs.View.{view}
 use Rattle.definitions.specs.Bits.{has}
 use Rattle.definitions.proofs.Bits.{has_decides}
 use Rattle.loads.specs.Loading.{load_shape}
 use Rattle.bits.specs.Rows.{usable_root, Area, row_has, Filled}
-use Rattle.bits.proofs.Leading.{root-inside, marked-has, none_has}
+use Rattle.bits.proofs.Leading.{root_inside, marked_has, none_has}
 
 -- the column of entry e
 abbrev pub column : ℕ → ℕ → ℕ → Places
 column rows queue e = record { marks = rows; stride = 256; column = e; queue = queue }
 
 module _ (rows queue n len : ℕ) (area : Area rows queue n len) (e : ℕ) (small : e < 256) where
-  pub column-room : Room (column rows queue e) n len
-  column-room =
+  pub column_room : Room (column rows queue e) n len
+  column_room =
       let few = area.few in
       let order = area.order in
       let room = area.room in
       record { column = small; order = omega arith; marks = omega arith; small = omega arith; queue = omega arith }
 
   -- a bit of a row, as a bit of the marks
-  row-bit : (ws : List ℕ) (m k : ℕ) → m < n → k < 256 → bit_of (column rows queue e) ws (256 * m + k) ≡ row_has rows ws m k
-  unfolding bit_of has-bit
-  row-bit ws m k l h =
+  row_bit : (ws : List ℕ) (m k : ℕ) → m < n → k < 256 → bit_of (column rows queue e) ws (256 * m + k) ≡ row_has rows ws m k
+  unfolding bit_of has_bit
+  row_bit ws m k l h =
       let order = area.order in
       let at : rows + (256 * m + k) / 64 ≡ rows + 4 * m + k / 64 = omega arith in
       let low : (256 * m + k) % 64 ≡ k % 64 = omega arith in
-      has-marks ws rows queue (256 * m + k) (omega arith) ∙ ap₂ (λ i j. bit (get_or ws i 0) j) at low
+      has_marks ws rows queue (256 * m + k) (omega arith) ∙ ap₂ (λ i j. bit (get_or ws i 0) j) at low
 
-  row-marked : (ws : List ℕ) (m : ℕ) → m < n → marked (column rows queue e) ws m ≡ row_has rows ws m e
+  row_marked : (ws : List ℕ) (m : ℕ) → m < n → marked (column rows queue e) ws m ≡ row_has rows ws m e
   unfolding marked
-  row-marked ws m l = row-bit ws m e l small
+  row_marked ws m l = row_bit ws m e l small
 
   row_other : (ws us : List ℕ) → Frame (column rows queue e) n ws us → (m k : ℕ) → m < n → k < 256 → (k ≡ e → ⊥) → row_has rows us m k ≡ row_has rows ws m k
-  row_other ws us frame m k l h ne = sym (row-bit us m k l h) ∙ frame.others (256 * m + k) (λ u b same. ne (omega arith)) ∙ row-bit ws m k l h
+  row_other ws us frame m k l h ne = sym (row_bit us m k l h) ∙ frame.others (256 * m + k) (λ u b same. ne (omega arith)) ∙ row_bit ws m k l h
 
 module _ (t : Table) (rows queue len : ℕ) (area : Area rows queue (length t.modules) len) (e : ℕ) (small : e < 256) (ws vs : List ℕ) (f : Filled t rows queue e ws vs) where
   none_marked : (m : ℕ) → m < length t.modules → marked (column rows queue e) vs m ≡ false
-  none_marked m l = row-marked rows queue _ len area e small vs m l ∙ f.rest m e l (omega arith) small
+  none_marked m l = row_marked rows queue _ len area e small vs m l ∙ f.rest m e l (omega arith) small
 
   pub fill_closed : Closed (Edge (load_shape t) vs) (marked (column rows queue e) vs)
   unfolding load_shape
@@ -55,9 +55,9 @@ module _ (t : Table) (rows queue len : ℕ) (area : Area rows queue (length t.mo
   pub fill_ready : (r : ℕ) → usable_root t e ≡ Some r → length vs ≡ len → Ready (column rows queue e) (load_shape t) (length vs) r
   unfolding load_shape
   fill_ready r is long = record {
-    node = root-inside t e r is;
+    node = root_inside t e r is;
     limit = omega arith;
-    room = subst (Room (column rows queue e) (length t.modules)) (sym long) (column-room rows queue _ len area e small);
+    room = subst (Room (column rows queue e) (length t.modules)) (sym long) (column_room rows queue _ len area e small);
   }
 
   pub fill_skip : e < length t.entries → ((r : ℕ) → usable_root t e ≡ Some r → ⊥) → Filled t rows queue (e + 1) ws vs
@@ -99,8 +99,8 @@ module _ (t : Table) (rows queue len : ℕ) (area : Area rows queue (length t.mo
 
       now : (m : ℕ) → m < length t.modules → row_has rows us m e ≡ has (view t) m e
       now m l =
-          sym (row-marked rows queue _ len area e small us m l)
-          ∙ same_from_decides _ _ (marked-has t vs m e r _ there is (decides m l)) (has_decides (view t) m e)
+          sym (row_marked rows queue _ len area e small us m l)
+          ∙ same_from_decides _ _ (marked_has t vs m e r _ there is (decides m l)) (has_decides (view t) m e)
 
 -- the same at a turn of the loop: the table means t₁ as the turn begins, and t₂ after the question for the entry's module
 module _ (t t₁ t₂ : Table) (e₁ : t₁ ≡ t) (e₂ : t₂ ≡ t₁) (rows queue entries e : ℕ) (ws vs : List ℕ) (area : Area rows queue (length t.modules) (length ws))

@@ -8,7 +8,7 @@ use Rattle.reach.specs.Paths.{Way, here, step}
 use Rattle.reach.specs.Shape.{Edge}
 use Rattle.definitions.specs.Bits.{usable, Leads, Has}
 use Rattle.definitions.specs.Bits as bits
-use Rattle.definitions.proofs.Bits.{usable-below}
+use Rattle.definitions.proofs.Bits.{usable_below}
 use Rattle.loads.specs.Loading.{if_usable_some, load_shape, view_modules}
 use Rattle.loads.proofs.Edges.{edge_of_loads, loads_of_edge}
 use Rattle.bits.specs.Rows.{usable_root}
@@ -27,10 +27,10 @@ module _ (t : Table) where
       none (root (view t) e) (cond-true (usable (view t) (root (view t) e)) (Some (root (view t) e)) None (leads_usable h.1))
 
   -- a walk begins at a module that there is
-  pub root-inside : (e r : ℕ) → usable_root t e ≡ Some r → r < length t.modules
-  root-inside e r is =
+  pub root_inside : (e r : ℕ) → usable_root t e ≡ Some r → r < length t.modules
+  root_inside e r is =
       let q = if_usable_some (view t) (root (view t) e) r is in
-      subst (λ n. r < n) (view_modules t) (usable-below (view t) r (subst (λ x. usable (view t) x ≡ true) q.0 q.1))
+      subst (λ n. r < n) (view_modules t) (usable_below (view t) r (subst (λ x. usable (view t) x ≡ true) q.0 q.1))
 
 module _ (t : Table) (ws : List ℕ) where
   pub leads_of_way : {a b : ℕ} → usable (view t) a ≡ true → Way (Edge (load_shape t) ws) a b → Leads (view t) a b
@@ -42,10 +42,10 @@ module _ (t : Table) (ws : List ℕ) where
   way_then_leads p (bits.on u l r) = way_then_leads (step p (edge_of_loads t ws _ _ l (leads_usable t r))) r
 
   -- a walk from the entry's module marks m exactly where m has the entry
-  pub marked-has : (m e r : ℕ) (b : Bool) → e < length t.entries → usable_root t e ≡ Some r
+  pub marked_has : (m e r : ℕ) (b : Bool) → e < length t.entries → usable_root t e ≡ Some r
       → Decides b (Way (Edge (load_shape t) ws) r m) → Decides b (Has (view t) m e)
   unfolding view
-  marked-has m e r b l is d =
+  marked_has m e r b l is d =
       let q = if_usable_some (view t) (root (view t) e) r is in (
         λ h. (l, leads_of_way q.1 (subst (λ x. Way (Edge (load_shape t) ws) x m) (sym q.0) (d.0 h))),
         λ h. d.1 (subst (λ x. Way (Edge (load_shape t) ws) x m) q.0 (way_then_leads here h.1)),

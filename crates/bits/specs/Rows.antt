@@ -3,7 +3,7 @@ use Rattle.std.specs.Prelude.{◌≡◌, ℕ, ◌+◌, ◌*◌, ◌<◌, ◌≤�
 use Rattle.tables.specs.Value.{Table}
 use Rattle.tables.specs.View.{view}
 use Rattle.tables.specs.Flags.{root}
-use Rattle.rows.specs.Bits.{has as has-bit}
+use Rattle.rows.specs.Bits.{has as has_bit}
 use Rattle.definitions.specs.Bits.{has}
 use Rattle.loads.specs.Loading.{if_usable}
 
@@ -19,7 +19,7 @@ pub record Area (rows queue n len : ℕ) : Type 0 where
 
 -- bit e of the row of module m
 abbrev pub row_has : ℕ → List ℕ → ℕ → ℕ → Bool
-row_has rows ws m e = has-bit ws (rows + 4 * m) e
+row_has rows ws m e = has_bit ws (rows + 4 * m) e
 
 abbrev pub NoBits : ℕ → ℕ → List ℕ → Type 0
 NoBits rows n ws = (m k : ℕ) → m < n → k < 256 → row_has rows ws m k ≡ false

@@ -1,4 +1,6 @@
 // The first phase of a plan: which module has which entry, asked of a table, in rows of bits.
+#![tactic(auto)]
+
 ghost use Rattle.std.specs.Prelude.{◌≡◌, ◌<◌, ◌≤◌, length};
 ghost use Rattle.bits.specs.Rows.{Area, NoBits, Filled, usable_root};
 
@@ -8,9 +10,9 @@ use tables::table::LinkTable;
 
 // The module of entry `e`, if it is normal and included.
 fn usable_root<'t, T: LinkTable<'t>>(table: &mut T, e: usize) -> Option<usize>
-    requires { e < length (means table.old).table.entries }
-    ensures answer { result ≡ usable_root (means table.old).table e }
-    ensures kept { means table.new ≡ means table.old }
+    requires { e < length (T.means table.old).table.entries }
+    ensures answer { result ≡ usable_root (T.means table.old).table e }
+    ensures kept { T.means table.new ≡ T.means table.old }
 {
     let Some(info) = table.entry(e) else {
         return None;
@@ -32,11 +34,11 @@ pub fn determine_reachable_modules<'t, T: LinkTable<'t>>(
     rows: usize,
     queue: usize,
 )
-    requires entries { (entries ≡ length (means table.old).table.entries) × (entries ≤ 256) }
-    requires area { Area rows queue (length (means table.old).table.modules) (length words.old) }
-    requires empty { NoBits rows (length (means table.old).table.modules) words.old }
-    ensures filled { Filled (means table.old).table rows queue entries words.old words.new }
-    ensures kept { means table.new ≡ means table.old }
+    requires entries { (entries ≡ length (T.means table.old).table.entries) × (entries ≤ 256) }
+    requires area { Area rows queue (length (T.means table.old).table.modules) (length words.old) }
+    requires empty { NoBits rows (length (T.means table.old).table.modules) words.old }
+    ensures filled { Filled (T.means table.old).table rows queue entries words.old words.new }
+    ensures kept { T.means table.new ≡ T.means table.old }
 {
     let graph = Loads {};
     for e in 0..entries {

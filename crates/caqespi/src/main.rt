@@ -1,4 +1,6 @@
 // caqespi FILE: checks the text of a link table. Without FILE it reads standard input.
+#![tactic(auto)]
+
 use anyhow::anyhow;
 use console::{Answer, LONGEST, respond};
 use std::fs::File;

@@ -13,7 +13,7 @@ use Rattle.definitions.specs.Checks.{Checked, then, each, at_most, below_if, num
 use Rattle.checkparts.specs.Each.{if_there, one_of}
 use Rattle.checkparts.specs.Items.{item_check, export_check}
 use Rattle.checkparts.specs.Lists.{module_list}
-use Rattle.checkparts.proofs.Steps.{four-then, info_is}
+use Rattle.checkparts.proofs.Steps.{four_then, info_is}
 use Rattle.checknumbers.specs.Numbers.{module_check, fields_checked, lists_checked, parts_checked}
 
 module _ {P : Type 0} (v : Meaning P) (modules symbols m : ℕ) (info : ModuleInfo) (asked : Some info ≡ table_module v.table m) where
@@ -28,7 +28,7 @@ module _ {P : Type 0} (v : Meaning P) (modules symbols m : ℕ) (info : ModuleIn
   unfolding lists_of
   parts None e = let z : ◌≡◌ {A = ℕ} 0 1 = cc in absurd (omega arith)
   parts (Some x) e = ap (λ i. then (fields_checked symbols m i v) (lists_of (Some x))) (info_is info x e)
-      ∙ four-then (at_most v.place 255 (thing.Module m) field.Flags x.flags) (at_most v.place 2 (thing.Module m) field.Wrap x.wrap)
+      ∙ four_then (at_most v.place 255 (thing.Module m) field.Flags x.flags) (at_most v.place 2 (thing.Module m) field.Wrap x.wrap)
       (below_if v.place symbols (thing.Module m) field.Namespace x.namespace) (below_if v.place symbols (thing.Module m) field.Wrapper x.wrapper)
       (lists_of (Some x))
 
@@ -46,18 +46,18 @@ module _ {P : Type 0} (v : Meaning P) (modules symbols m : ℕ) (info : ModuleIn
       rest ∙ ap (lists_checked modules symbols m) f ∙ ap (λ q. then q (lists_checked modules symbols m v)) (ok ∙ ap (fields_checked symbols m info) e) ∙ module_told
 
 -- all numbers of a table
-abbrev runtime-checked : {P : Type 0} → ℕ → Option ℕ → Meaning P → Checked P
-runtime-checked modules runtime v = below_if v.place modules thing.Header field.Runtime runtime
+abbrev runtime_checked : {P : Type 0} → ℕ → Option ℕ → Meaning P → Checked P
+runtime_checked modules runtime v = below_if v.place modules thing.Header field.Runtime runtime
 
 abbrev numbers_of : {P : Type 0} → ℕ → ℕ → Option ℕ → Meaning P → Checked P
-numbers_of modules symbols runtime v = then (runtime-checked modules runtime v) (parts_checked modules symbols v)
+numbers_of modules symbols runtime v = then (runtime_checked modules runtime v) (parts_checked modules symbols v)
 
 pub numbers_end : {P : Type 0} (v v₀ v₁ : Meaning P) (modules symbols : ℕ) (runtime : Option ℕ) (r : Checked P) → v₀ ≡ v → v₁ ≡ v →
     modules ≡ length v.table.modules → symbols ≡ length v.table.symbols → runtime ≡ v.table.runtime →
-    Ok tt ≡ runtime-checked modules runtime v₀ → r ≡ parts_checked modules symbols v₁ → r ≡ numbers_checked v.place v.table
+    Ok tt ≡ runtime_checked modules runtime v₀ → r ≡ parts_checked modules symbols v₁ → r ≡ numbers_checked v.place v.table
 unfolding numbers_checked
 numbers_end v v₀ v₁ modules symbols runtime r e f em es er ok rest =
     rest ∙ ap (parts_checked modules symbols) f
-    ∙ ap (λ q. then q (parts_checked modules symbols v)) (ok ∙ ap (runtime-checked modules runtime) e)
+    ∙ ap (λ q. then q (parts_checked modules symbols v)) (ok ∙ ap (runtime_checked modules runtime) e)
     ∙ ap (λ n. numbers_of n symbols runtime v) em ∙ ap (λ n. numbers_of (length v.table.modules) n runtime v) es
     ∙ ap (λ n. numbers_of (length v.table.modules) (length v.table.symbols) n v) er

@@ -1,5 +1,5 @@
 -- Where the numbers pass, every link names a symbol.
-use Rattle.std.proofs.Common.{◌≡◌, ℕ, ◌+◌, ◌<◌, true, ltb, length, get_or, Ok, Option, sym, ap, ◌∙◌, subst, arith}
+use Rattle.std.proofs.Common.{◌≡◌, ℕ, ◌+◌, ◌<◌, ltb, length, get_or, Ok, Option, sym}
 use Rattle.std.proofs.lemmas.Option.{slice_get-get_or}
 use Rattle.std.proofs.lemmas.Bool.{ltb-true}
 use Rattle.tables.specs.Value.{Table}
@@ -10,7 +10,7 @@ use Rattle.tables.specs.declared.thing.Field.{Field}
 use Rattle.tables.specs.declared.thing.Field.TheVariants as field
 use Rattle.tables.specs.declared.thing.Thing.{Thing}
 use Rattle.tables.specs.declared.thing.Thing.TheVariants as thing
-use Rattle.definitions.specs.Checks.{Checked, then, each, fault_at, at_most, below, below_if, module_checked, entry_checked, symbol_checked, numbers_checked}
+use Rattle.definitions.specs.Checks.{then, each, at_most, below, below_if, module_checked, entry_checked, symbol_checked, numbers_checked}
 use Rattle.checkparts.proofs.Steps.{then_parts, each_passes, unless_passes}
 
 module _ {P : Type 0} (place : Thing → Field → Option P) (t : Table) where
@@ -31,8 +31,8 @@ module _ {P : Type 0} (place : Thing → Field → Option P) (t : Table) where
       let a = (then_parts owner (then link rest) e).1 in
       ltb-true x.link symbols (unless_passes (ltb x.link symbols) _ (then_parts link rest a).0)
 
-  pub numbers-within : Ok tt ≡ numbers_checked place t → LinksWithin (view t)
+  pub numbers_within : Ok tt ≡ numbers_checked place t → LinksWithin (view t)
   unfolding view
-  numbers-within e s lt =
+  numbers_within e s lt =
       link_passes (length t.modules) (length t.symbols) (0 + s) (get_or t.symbols s no_symbol)
       (each_passes (symbol_checked place (length t.modules) (length t.symbols)) 0 t.symbols (symbols_pass e) s (get_or t.symbols s no_symbol) (sym (slice_get-get_or t.symbols s no_symbol lt)))

@@ -1,4 +1,6 @@
 // Refuses numbers that name nothing, and wraps and sums of flags that are too large.
+#![tactic(auto)]
+
 ghost use Rattle.std.specs.Prelude.{◌≡◌, length, Some};
 ghost use Rattle.tables.specs.Asked.{table_module};
 ghost use Rattle.definitions.specs.Checks.{numbers_checked};
@@ -33,8 +35,8 @@ fn check_fields<'t, T: LinkTable<'t>>(
     m: usize,
     info: ModuleInfo,
 ) -> Result<(), Fault<T::Place>>
-    ensures answer { result ≡ fields_checked symbols m info (means table.old) }
-    ensures kept { means table.new ≡ means table.old }
+    ensures answer { result ≡ fields_checked symbols m info (T.means table.old) }
+    ensures kept { T.means table.new ≡ T.means table.old }
 {
     let thing = Thing::Module(m);
     check_at_most(table, MODULE_FLAGS, thing, Field::Flags, info.flags)?;
@@ -51,9 +53,9 @@ fn check_lists<'t, T: LinkTable<'t>>(
     m: usize,
     info: ModuleInfo,
 ) -> Result<(), Fault<T::Place>>
-    requires { Some info ≡ table_module (means table.old).table m }
-    ensures answer { result ≡ lists_checked modules symbols m (means table.old) }
-    ensures kept { means table.new ≡ means table.old }
+    requires { Some info ≡ table_module (T.means table.old).table m }
+    ensures answer { result ≡ lists_checked modules symbols m (T.means table.old) }
+    ensures kept { T.means table.new ≡ T.means table.old }
 {
     check_items(table, modules, ModuleList::Loads, m, info.loads)?;
     check_items(
@@ -75,8 +77,8 @@ fn check_module<'t, T: LinkTable<'t>>(
     symbols: usize,
     m: usize,
 ) -> Result<(), Fault<T::Place>>
-    ensures answer { result ≡ one_of (module_check modules symbols) module_list (means table.old) m }
-    ensures kept { means table.new ≡ means table.old }
+    ensures answer { result ≡ one_of (module_check modules symbols) module_list (T.means table.old) m }
+    ensures kept { T.means table.new ≡ T.means table.old }
 {
     let Some(info) = table.module(m) else {
         return Ok(());
@@ -91,9 +93,9 @@ fn check_modules<'t, T: LinkTable<'t>>(
     modules: usize,
     symbols: usize,
 ) -> Result<(), Fault<T::Place>>
-    requires { modules ≡ length (module_list (means table.old)) }
-    ensures answer { result ≡ all_of (module_check modules symbols) module_list (means table.old) }
-    ensures kept { means table.new ≡ means table.old }
+    requires { modules ≡ length (module_list (T.means table.old)) }
+    ensures answer { result ≡ all_of (module_check modules symbols) module_list (T.means table.old) }
+    ensures kept { T.means table.new ≡ T.means table.old }
 {
     for m in 0..modules {
         check_module(table, modules, symbols, m)?;
@@ -107,8 +109,8 @@ fn check_entry<'t, T: LinkTable<'t>>(
     modules: usize,
     e: usize,
 ) -> Result<(), Fault<T::Place>>
-    ensures answer { result ≡ one_of (entry_check modules) entry_list (means table.old) e }
-    ensures kept { means table.new ≡ means table.old }
+    ensures answer { result ≡ one_of (entry_check modules) entry_list (T.means table.old) e }
+    ensures kept { T.means table.new ≡ T.means table.old }
 {
     let Some(info) = table.entry(e) else {
         return Ok(());
@@ -125,9 +127,9 @@ fn check_entries<'t, T: LinkTable<'t>>(
     modules: usize,
     entries: usize,
 ) -> Result<(), Fault<T::Place>>
-    requires { entries ≡ length (entry_list (means table.old)) }
-    ensures answer { result ≡ all_of (entry_check modules) entry_list (means table.old) }
-    ensures kept { means table.new ≡ means table.old }
+    requires { entries ≡ length (entry_list (T.means table.old)) }
+    ensures answer { result ≡ all_of (entry_check modules) entry_list (T.means table.old) }
+    ensures kept { T.means table.new ≡ T.means table.old }
 {
     for e in 0..entries {
         check_entry(table, modules, e)?;
@@ -142,8 +144,8 @@ fn check_symbol<'t, T: LinkTable<'t>>(
     symbols: usize,
     s: usize,
 ) -> Result<(), Fault<T::Place>>
-    ensures answer { result ≡ one_of (symbol_check modules symbols) symbol_list (means table.old) s }
-    ensures kept { means table.new ≡ means table.old }
+    ensures answer { result ≡ one_of (symbol_check modules symbols) symbol_list (T.means table.old) s }
+    ensures kept { T.means table.new ≡ T.means table.old }
 {
     let Some(symbol) = table.symbol(s) else {
         return Ok(());
@@ -161,9 +163,9 @@ fn check_symbols<'t, T: LinkTable<'t>>(
     modules: usize,
     symbols: usize,
 ) -> Result<(), Fault<T::Place>>
-    requires { symbols ≡ length (symbol_list (means table.old)) }
-    ensures answer { result ≡ all_of (symbol_check modules symbols) symbol_list (means table.old) }
-    ensures kept { means table.new ≡ means table.old }
+    requires { symbols ≡ length (symbol_list (T.means table.old)) }
+    ensures answer { result ≡ all_of (symbol_check modules symbols) symbol_list (T.means table.old) }
+    ensures kept { T.means table.new ≡ T.means table.old }
 {
     for s in 0..symbols {
         check_symbol(table, modules, symbols, s)?;
@@ -177,9 +179,9 @@ fn check_parts<'t, T: LinkTable<'t>>(
     modules: usize,
     symbols: usize,
 ) -> Result<(), Fault<T::Place>>
-    requires { (modules ≡ length (module_list (means table.old))) × (symbols ≡ length (symbol_list (means table.old))) }
-    ensures answer { result ≡ parts_checked modules symbols (means table.old) }
-    ensures kept { means table.new ≡ means table.old }
+    requires { (modules ≡ length (module_list (T.means table.old))) × (symbols ≡ length (symbol_list (T.means table.old))) }
+    ensures answer { result ≡ parts_checked modules symbols (T.means table.old) }
+    ensures kept { T.means table.new ≡ T.means table.old }
 {
     let entries = table.entry_count();
     check_modules(table, modules, symbols)?;
@@ -189,8 +191,8 @@ fn check_parts<'t, T: LinkTable<'t>>(
 
 // Refuses the first number that names nothing, in the order runtime, modules, entries, symbols.
 pub fn check_numbers<'t, T: LinkTable<'t>>(table: &mut T) -> Result<(), Fault<T::Place>>
-    ensures answer { result ≡ numbers_checked (means table.old).place (means table.old).table }
-    ensures kept { means table.new ≡ means table.old }
+    ensures answer { result ≡ numbers_checked (T.means table.old).place (T.means table.old).table }
+    ensures kept { T.means table.new ≡ T.means table.old }
 {
     let modules = table.module_count();
     let symbols = table.symbol_count();

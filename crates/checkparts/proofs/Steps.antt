@@ -1,5 +1,5 @@
 -- One step, a stop and the end of a check of each element of a list.
-use Rattle.std.proofs.Common.{◌≡◌, ℕ, zero, suc, ◌+◌, ◌≤◌, Bool, true, false, List, [], ◌∷◌, length, drop, Some, None, Ok, Err, Option, Result, sym, refl, ap, ◌∙◌, add-one, arith}
+use Rattle.std.proofs.Common.{◌≡◌, ℕ, zero, suc, ◌+◌, ◌≤◌, Bool, true, false, List, [], ◌∷◌, length, drop, Some, None, Ok, Err, Option, sym, refl, ap, ◌∙◌, add-one, arith}
 use Rattle.std.proofs.lemmas.List.{drop_all}
 use Rattle.std.specs.List.{slice_get}
 use Rattle.std.specs.Option.{option_map}
@@ -52,11 +52,11 @@ module _ {P X : Type 0} (check : Meaning P → ℕ → X → Checked P) (list : 
   end le = rw (drop_all i (list v₀) le) at inv
 
 -- four checks and then another
-pub four-then : {P : Type 0} (a b c d e : Checked P) → then (then a (then b (then c d))) e ≡ then a (then b (then c (then d e)))
-four-then (Err y) b c d e = refl
-four-then (Ok x) (Err y) c d e = refl
-four-then (Ok x) (Ok y) (Err z) d e = refl
-four-then (Ok x) (Ok y) (Ok z) d e = refl
+pub four_then : {P : Type 0} (a b c d e : Checked P) → then (then a (then b (then c d))) e ≡ then a (then b (then c (then d e)))
+four_then (Err y) b c d e = refl
+four_then (Ok x) (Err y) c d e = refl
+four_then (Ok x) (Ok y) (Err z) d e = refl
+four_then (Ok x) (Ok y) (Ok z) d e = refl
 
 -- what is told of a module that is there
 pub info_is : (info : ModuleInfo) (x : Module) → Some info ≡ option_map info_of (Some x) → info ≡ info_of x

@@ -13,8 +13,8 @@ pub fn fault_at<'t, T: LinkTable<'t>>(
     thing: Thing,
     field: Field,
 ) -> Fault<T::Place>
-    ensures answer { result ≡ fault_at (means table.old).place cause thing field }
-    ensures kept { means table.new ≡ means table.old }
+    ensures answer { result ≡ fault_at (T.means table.old).place cause thing field }
+    ensures kept { T.means table.new ≡ T.means table.old }
 {
     let place = table.place_of(thing, field);
     Fault {
@@ -32,8 +32,8 @@ pub fn check_few<'t, T: LinkTable<'t>>(
     thing: Thing,
     n: usize,
 ) -> Result<(), Fault<T::Place>>
-    ensures answer { result ≡ few (means table.old).place most thing n }
-    ensures kept { means table.new ≡ means table.old }
+    ensures answer { result ≡ few (T.means table.old).place most thing n }
+    ensures kept { T.means table.new ≡ T.means table.old }
 {
     if n <= most {
         return Ok(());
@@ -49,8 +49,8 @@ pub fn check_below<'t, T: LinkTable<'t>>(
     field: Field,
     v: u32,
 ) -> Result<(), Fault<T::Place>>
-    ensures answer { result ≡ below (means table.old).place n thing field v }
-    ensures kept { means table.new ≡ means table.old }
+    ensures answer { result ≡ below (T.means table.old).place n thing field v }
+    ensures kept { T.means table.new ≡ T.means table.old }
 {
     if (v as usize) < n {
         return Ok(());
@@ -66,8 +66,8 @@ pub fn check_at_most<'t, T: LinkTable<'t>>(
     field: Field,
     v: u32,
 ) -> Result<(), Fault<T::Place>>
-    ensures answer { result ≡ at_most (means table.old).place n thing field v }
-    ensures kept { means table.new ≡ means table.old }
+    ensures answer { result ≡ at_most (T.means table.old).place n thing field v }
+    ensures kept { T.means table.new ≡ T.means table.old }
 {
     if v <= n {
         return Ok(());
@@ -83,8 +83,8 @@ pub fn check_below_if<'t, T: LinkTable<'t>>(
     field: Field,
     number: Option<u32>,
 ) -> Result<(), Fault<T::Place>>
-    ensures answer { result ≡ below_if (means table.old).place n thing field number }
-    ensures kept { means table.new ≡ means table.old }
+    ensures answer { result ≡ below_if (T.means table.old).place n thing field number }
+    ensures kept { T.means table.new ≡ T.means table.old }
 {
     match number {
         Some(v) => check_below(table, n, thing, field, v),

@@ -20,8 +20,8 @@ fn check_item<'t, T: LinkTable<'t>>(
     m: usize,
     i: usize,
 ) -> Result<(), Fault<T::Place>>
-    ensures answer { result ≡ one_of (item_check n list m) (item_list list m) (means table.old) i }
-    ensures kept { means table.new ≡ means table.old }
+    ensures answer { result ≡ one_of (item_check n list m) (item_list list m) (T.means table.old) i }
+    ensures kept { T.means table.new ≡ T.means table.old }
 {
     let Some(v) = table.item(list, m, i) else {
         return Ok(());
@@ -37,9 +37,9 @@ pub fn check_items<'t, T: LinkTable<'t>>(
     m: usize,
     count: usize,
 ) -> Result<(), Fault<T::Place>>
-    requires { count ≡ length (item_list list m (means table.old)) }
-    ensures answer { result ≡ all_of (item_check n list m) (item_list list m) (means table.old) }
-    ensures kept { means table.new ≡ means table.old }
+    requires { count ≡ length (item_list list m (T.means table.old)) }
+    ensures answer { result ≡ all_of (item_check n list m) (item_list list m) (T.means table.old) }
+    ensures kept { T.means table.new ≡ T.means table.old }
 {
     for i in 0..count {
         check_item(table, n, list, m, i)?;
@@ -54,8 +54,8 @@ fn check_export<'t, T: LinkTable<'t>>(
     m: usize,
     i: usize,
 ) -> Result<(), Fault<T::Place>>
-    ensures answer { result ≡ one_of (export_check symbols m) (export_list m) (means table.old) i }
-    ensures kept { means table.new ≡ means table.old }
+    ensures answer { result ≡ one_of (export_check symbols m) (export_list m) (T.means table.old) i }
+    ensures kept { T.means table.new ≡ T.means table.old }
 {
     let Some(export) = table.export(m, i) else {
         return Ok(());
@@ -76,9 +76,9 @@ pub fn check_exports<'t, T: LinkTable<'t>>(
     m: usize,
     count: usize,
 ) -> Result<(), Fault<T::Place>>
-    requires { count ≡ length (export_list m (means table.old)) }
-    ensures answer { result ≡ all_of (export_check symbols m) (export_list m) (means table.old) }
-    ensures kept { means table.new ≡ means table.old }
+    requires { count ≡ length (export_list m (T.means table.old)) }
+    ensures answer { result ≡ all_of (export_check symbols m) (export_list m) (T.means table.old) }
+    ensures kept { T.means table.new ≡ T.means table.old }
 {
     for i in 0..count {
         check_export(table, symbols, m, i)?;
@@ -93,8 +93,8 @@ fn check_site<'t, T: LinkTable<'t>>(
     e: usize,
     i: usize,
 ) -> Result<(), Fault<T::Place>>
-    ensures answer { result ≡ one_of (site_check modules e) (site_list e) (means table.old) i }
-    ensures kept { means table.new ≡ means table.old }
+    ensures answer { result ≡ one_of (site_check modules e) (site_list e) (T.means table.old) i }
+    ensures kept { T.means table.new ≡ T.means table.old }
 {
     let Some(site) = table.site(e, i) else {
         return Ok(());
@@ -112,9 +112,9 @@ pub fn check_sites<'t, T: LinkTable<'t>>(
     e: usize,
     count: usize,
 ) -> Result<(), Fault<T::Place>>
-    requires { count ≡ length (site_list e (means table.old)) }
-    ensures answer { result ≡ all_of (site_check modules e) (site_list e) (means table.old) }
-    ensures kept { means table.new ≡ means table.old }
+    requires { count ≡ length (site_list e (T.means table.old)) }
+    ensures answer { result ≡ all_of (site_check modules e) (site_list e) (T.means table.old) }
+    ensures kept { T.means table.new ≡ T.means table.old }
 {
     for i in 0..count {
         check_site(table, modules, e, i)?;

@@ -11,27 +11,27 @@ use Rattle.tables.specs.declared.thing.Thing.TheVariants as thing
 use Rattle.definitions.specs.Checks.{Checked, then, few, counts_checked}
 use Rattle.checkparts.specs.Each.{if_there, one_of, all_of}
 use Rattle.checkparts.specs.Lists.{module_list, entry_list}
-use Rattle.checkparts.proofs.Steps.{four-then, info_is}
+use Rattle.checkparts.proofs.Steps.{four_then, info_is}
 use Rattle.checks.specs.Counted.{module_few, entry_few, few_lists, few_names}
 
 module _ {P : Type 0} (v : Meaning P) (m : ℕ) (info : ModuleInfo) (asked : Some info ≡ table_module v.table m) where
   counts : (o : Option Module) → Some info ≡ option_map info_of o → then (few_lists m info v) (few_names m info v) ≡ if_there (module_few v m) o
   counts None e = let z : ◌≡◌ {A = ℕ} 0 1 = cc in absurd (omega arith)
   counts (Some x) e = ap (λ i. then (few_lists m i v) (few_names m i v)) (info_is info x e)
-      ∙ four-then (few v.place 4096 (thing.Item Loads m 4096) (length x.loads)) (few v.place 4096 (thing.Item Dependencies m 4096) (length x.dependencies))
+      ∙ four_then (few v.place 4096 (thing.Item Loads m 4096) (length x.loads)) (few v.place 4096 (thing.Item Dependencies m 4096) (length x.dependencies))
       (few v.place 4096 (thing.Item Resolved m 4096) (length x.resolved)) (few v.place 4096 (thing.Item References m 4096) (length x.references))
       (few_names m (info_of x) v)
 
-  counts-told : then (few_lists m info v) (few_names m info v) ≡ one_of module_few module_list v m
-  counts-told = counts (slice_get v.table.modules m) asked
+  counts_told : then (few_lists m info v) (few_names m info v) ≡ one_of module_few module_list v m
+  counts_told = counts (slice_get v.table.modules m) asked
 
   pub counts_stop : (y : Fault P) (v₀ : Meaning P) → v₀ ≡ v → Err y ≡ few_lists m info v₀ → Err y ≡ one_of module_few module_list v m
-  counts_stop y v₀ e bad = ap (λ r. then r (few_names m info v)) (bad ∙ ap (few_lists m info) e) ∙ counts-told
+  counts_stop y v₀ e bad = ap (λ r. then r (few_names m info v)) (bad ∙ ap (few_lists m info) e) ∙ counts_told
 
   pub counts_end : (r : Checked P) (v₀ v₁ : Meaning P) → v₀ ≡ v → v₁ ≡ v → Ok tt ≡ few_lists m info v₀ → r ≡ few_names m info v₁ →
       r ≡ one_of module_few module_list v m
   counts_end r v₀ v₁ e f ok rest =
-      rest ∙ ap (few_names m info) f ∙ ap (λ q. then q (few_names m info v)) (ok ∙ ap (few_lists m info) e) ∙ counts-told
+      rest ∙ ap (few_names m info) f ∙ ap (λ q. then q (few_names m info v)) (ok ∙ ap (few_lists m info) e) ∙ counts_told
 
 -- all counts of a table
 abbrev few_modules : {P : Type 0} → ℕ → Meaning P → Checked P

@@ -1,5 +1,5 @@
 -- Names that stand twice: the scan over the earlier exports, and the order in which they are held.
-use Rattle.std.proofs.Common.{◌≡◌, ℕ, zero, suc, ◌+◌, ◌<◌, ◌≤◌, Bool, true, false, not, ◌||◌, List, [], ◌∷◌, ◌++◌, length, take, Some, None, Ok, Err, Decides, Option, sym, refl, ap, ◌∙◌, append_assoc, add-one, arith}
+use Rattle.std.proofs.Common.{◌≡◌, ℕ, zero, suc, ◌+◌, ◌<◌, Bool, true, false, not, ◌||◌, List, [], ◌∷◌, ◌++◌, length, take, Some, None, Decides, Option, sym, refl, ap, ◌∙◌, append_assoc, add-one, arith}
 use Rattle.std.specs.List.{slice_get}
 use Rattle.std.proofs.lemmas.Bool.{or_left, or_right, or_from, or_parts, false≢true}
 use Rattle.std.proofs.lemmas.Slice.Eq.{IsBytesEq, compares_Decides}
@@ -26,8 +26,8 @@ compares : IsBytesEq same_name
 unfolding same_name
 compares = record { empty = refl; shorter = λ y ys. refl; longer = λ x xs. refl; heads = λ x y xs ys. refl }
 
-pub same-told : (xs ys : List ℕ) (r : Bool) → Decides r (xs ≡ ys) → r ≡ same_name xs ys
-same-told xs ys r e = agree r (same_name xs ys) e (compares_Decides same_name compares xs ys)
+pub same_told : (xs ys : List ℕ) (r : Bool) → Decides r (xs ≡ ys) → r ≡ same_name xs ys
+same_told xs ys r e = agree r (same_name xs ys) e (compares_Decides same_name compares xs ys)
 
 -- the scan
 module _ {X : Type 0} (p : X → Bool) where
@@ -54,9 +54,9 @@ module _ {X : Type 0} (p : X → Bool) where
       swap true false c = refl
       swap false b c = refl
 
-take-front : {X : Type 0} (front rest : List X) → take (length front) (front ++ rest) ≡ front
-take-front [] rest = refl
-take-front (x ∷ xs) rest = ap (λ l. x ∷ l) (take-front xs rest)
+take_front : {X : Type 0} (front rest : List X) → take (length front) (front ++ rest) ≡ front
+take_front [] rest = refl
+take_front (x ∷ xs) rest = ap (λ l. x ∷ l) (take_front xs rest)
 
 length_last : {X : Type 0} (front : List X) (x : X) → length (front ++ (x ∷ [])) ≡ suc (length front)
 length_last [] x = refl
@@ -73,7 +73,7 @@ module _ {P : Type 0} (v : Meaning P) (m : ℕ) where
   among xs [] earlier front is same = refl
   among xs (x ∷ rest) earlier front is same =
       ap (λ b. then (unless (not b) (fault_at v.place NameTwice (thing.Export m (length front)) field.Name)) (each (in_list xs) (suc (length front)) rest))
-      (ap (λ l. some_of (has_name x.name) (take (length front) l)) is ∙ ap (some_of (has_name x.name)) (take-front front (x ∷ rest)) ∙ sym (same (has_name x.name)))
+      (ap (λ l. some_of (has_name x.name) (take (length front) l)) is ∙ ap (some_of (has_name x.name)) (take_front front (x ∷ rest)) ∙ sym (same (has_name x.name)))
       ∙ ap (then (unless (not (some_of (has_name x.name) earlier)) (fault_at v.place NameTwice (thing.Export m (length front)) field.Name)))
       (rw length_last at (among xs rest (x ∷ earlier) (front ++ (x ∷ [])) longer last))
     where

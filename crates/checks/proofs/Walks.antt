@@ -1,10 +1,10 @@
 -- The walk along a chain of links.
-use Rattle.std.proofs.Common.{◌≡◌, ℕ, zero, suc, ◌+◌, ◌-◌, ◌<◌, ◌≤◌, Bool, true, false, not, eqb, List, [], ◌∷◌, length, get_or, Some, None, Ok, Err, Option, sym, refl, ap, ◌∙◌, arith}
+use Rattle.std.proofs.Common.{◌≡◌, ℕ, zero, suc, ◌+◌, ◌-◌, ◌<◌, ◌≤◌, Bool, true, false, not, eqb, List, [], ◌∷◌, length, get_or, Some, None, Err, sym, refl, ap, ◌∙◌, arith}
 use Rattle.std.specs.List.{slice_get}
 use Rattle.std.proofs.lemmas.Bool.{eq-eqb}
 use Rattle.std.proofs.lemmas.Option.{slice_get-get_or}
 use Rattle.tables.specs.Value.{Meaning, Table}
-use Rattle.tables.specs.View.{View, view, symbol_count, symbol_at, no_symbol}
+use Rattle.tables.specs.View.{View, view, symbol_at, no_symbol}
 use Rattle.tables.specs.Asked.{table_symbol}
 use Rattle.tables.specs.Links.{linked, canon, endless}
 use Rattle.tables.specs.declared.parts.Symbol.{Symbol}

@@ -1,17 +1,17 @@
 -- Where the counts pass, there are at most 4096 modules and 256 entries.
-use Rattle.std.proofs.Common.{◌≡◌, ℕ, ◌≤◌, leb, length, Ok, Option}
+use Rattle.std.proofs.Common.{◌≡◌, ◌≤◌, leb, length, Ok, Option}
 use Rattle.std.proofs.lemmas.Bool.{leb-true}
 use Rattle.tables.specs.Value.{Table}
 use Rattle.tables.specs.declared.thing.Field.{Field}
 use Rattle.tables.specs.declared.thing.Thing.{Thing}
 use Rattle.tables.specs.declared.thing.Thing.TheVariants as thing
-use Rattle.definitions.specs.Checks.{Checked, then, each, few, few_in_module, few_in_entry, counts_checked}
+use Rattle.definitions.specs.Checks.{then, each, few, few_in_module, few_in_entry, counts_checked}
 use Rattle.checkparts.proofs.Steps.{then_parts, unless_passes}
 
 module _ {P : Type 0} (place : Thing → Field → Option P) (t : Table) where
-  pub counts-within : Ok tt ≡ counts_checked place t → (length t.modules ≤ 4096) × (length t.entries ≤ 256)
+  pub counts_within : Ok tt ≡ counts_checked place t → (length t.modules ≤ 4096) × (length t.entries ≤ 256)
   unfolding counts_checked
-  counts-within e =
+  counts_within e =
       let modules = few place 4096 (thing.Module 4096) (length t.modules) in
       let entries = few place 256 (thing.Entry 256) (length t.entries) in
       let symbols = few place 16384 (thing.Symbol 16384) (length t.symbols) in

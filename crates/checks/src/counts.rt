@@ -25,8 +25,8 @@ fn check_list_counts<'t, T: LinkTable<'t>>(
     m: usize,
     info: ModuleInfo,
 ) -> Result<(), Fault<T::Place>>
-    ensures answer { result ≡ few_lists m info (means table.old) }
-    ensures kept { means table.new ≡ means table.old }
+    ensures answer { result ≡ few_lists m info (T.means table.old) }
+    ensures kept { T.means table.new ≡ T.means table.old }
 {
     check_few(
         table,
@@ -60,8 +60,8 @@ fn check_name_counts<'t, T: LinkTable<'t>>(
     m: usize,
     info: ModuleInfo,
 ) -> Result<(), Fault<T::Place>>
-    ensures answer { result ≡ few_names m info (means table.old) }
-    ensures kept { means table.new ≡ means table.old }
+    ensures answer { result ≡ few_names m info (T.means table.old) }
+    ensures kept { T.means table.new ≡ T.means table.old }
 {
     check_few(table, MAX_ITEMS, Thing::Export(m, MAX_ITEMS), info.exports)?;
     check_few(table, MAX_ITEMS, Thing::Partial(m, MAX_ITEMS), info.partial)
@@ -69,8 +69,8 @@ fn check_name_counts<'t, T: LinkTable<'t>>(
 
 // The lists of module `m`.
 fn check_module_counts<'t, T: LinkTable<'t>>(table: &mut T, m: usize) -> Result<(), Fault<T::Place>>
-    ensures answer { result ≡ one_of module_few module_list (means table.old) m }
-    ensures kept { means table.new ≡ means table.old }
+    ensures answer { result ≡ one_of module_few module_list (T.means table.old) m }
+    ensures kept { T.means table.new ≡ T.means table.old }
 {
     let Some(info) = table.module(m) else {
         return Ok(());
@@ -84,9 +84,9 @@ fn check_modules_counts<'t, T: LinkTable<'t>>(
     table: &mut T,
     modules: usize,
 ) -> Result<(), Fault<T::Place>>
-    requires { modules ≡ length (module_list (means table.old)) }
-    ensures answer { result ≡ all_of module_few module_list (means table.old) }
-    ensures kept { means table.new ≡ means table.old }
+    requires { modules ≡ length (module_list (T.means table.old)) }
+    ensures answer { result ≡ all_of module_few module_list (T.means table.old) }
+    ensures kept { T.means table.new ≡ T.means table.old }
 {
     for m in 0..modules {
         check_module_counts(table, m)?;
@@ -96,8 +96,8 @@ fn check_modules_counts<'t, T: LinkTable<'t>>(
 
 // The sites of entry `e`.
 fn check_entry_counts<'t, T: LinkTable<'t>>(table: &mut T, e: usize) -> Result<(), Fault<T::Place>>
-    ensures answer { result ≡ one_of entry_few entry_list (means table.old) e }
-    ensures kept { means table.new ≡ means table.old }
+    ensures answer { result ≡ one_of entry_few entry_list (T.means table.old) e }
+    ensures kept { T.means table.new ≡ T.means table.old }
 {
     let Some(info) = table.entry(e) else {
         return Ok(());
@@ -110,9 +110,9 @@ fn check_entries_counts<'t, T: LinkTable<'t>>(
     table: &mut T,
     entries: usize,
 ) -> Result<(), Fault<T::Place>>
-    requires { entries ≡ length (entry_list (means table.old)) }
-    ensures answer { result ≡ all_of entry_few entry_list (means table.old) }
-    ensures kept { means table.new ≡ means table.old }
+    requires { entries ≡ length (entry_list (T.means table.old)) }
+    ensures answer { result ≡ all_of entry_few entry_list (T.means table.old) }
+    ensures kept { T.means table.new ≡ T.means table.old }
 {
     for e in 0..entries {
         check_entry_counts(table, e)?;
@@ -126,9 +126,9 @@ fn check_lists_counts<'t, T: LinkTable<'t>>(
     modules: usize,
     entries: usize,
 ) -> Result<(), Fault<T::Place>>
-    requires { (modules ≡ length (module_list (means table.old))) × (entries ≡ length (entry_list (means table.old))) }
-    ensures answer { result ≡ then (all_of module_few module_list (means table.old)) (all_of entry_few entry_list (means table.old)) }
-    ensures kept { means table.new ≡ means table.old }
+    requires { (modules ≡ length (module_list (T.means table.old))) × (entries ≡ length (entry_list (T.means table.old))) }
+    ensures answer { result ≡ then (all_of module_few module_list (T.means table.old)) (all_of entry_few entry_list (T.means table.old)) }
+    ensures kept { T.means table.new ≡ T.means table.old }
 {
     check_modules_counts(table, modules)?;
     check_entries_counts(table, entries)
@@ -136,8 +136,8 @@ fn check_lists_counts<'t, T: LinkTable<'t>>(
 
 // Refuses the first count over its maximum, in the order modules, entries, symbols, then the lists of each.
 pub fn check_counts<'t, T: LinkTable<'t>>(table: &mut T) -> Result<(), Fault<T::Place>>
-    ensures answer { result ≡ counts_checked (means table.old).place (means table.old).table }
-    ensures kept { means table.new ≡ means table.old }
+    ensures answer { result ≡ counts_checked (T.means table.old).place (T.means table.old).table }
+    ensures kept { T.means table.new ≡ T.means table.old }
 {
     let modules = table.module_count();
     let entries = table.entry_count();

@@ -1,4 +1,6 @@
 // What begin refuses of a link table, by questions alone: counts, words, numbers, links and names. One text for every table.
+#![tactic(auto)]
+
 pub mod counts;
 pub mod links;
 pub mod names;

@@ -14,8 +14,8 @@ use tables::thing::{Field, Thing};
 
 // The symbol that symbol `s` links to; 0 where there is no such symbol.
 fn link_of<'t, T: LinkTable<'t>>(table: &mut T, s: usize) -> usize
-    ensures answer { result ≡ (symbol_at (view (means table.old).table) s).link }
-    ensures kept { means table.new ≡ means table.old }
+    ensures answer { result ≡ (symbol_at (view (T.means table.old).table) s).link }
+    ensures kept { T.means table.new ≡ T.means table.old }
 {
     let Some(symbol) = table.symbol(s) else {
         return 0;
@@ -25,9 +25,9 @@ fn link_of<'t, T: LinkTable<'t>>(table: &mut T, s: usize) -> usize
 
 // The chain of links from symbol `s` ends.
 fn is_ending<'t, T: LinkTable<'t>>(table: &mut T, symbols: usize, s: usize) -> bool
-    requires { symbols ≡ length (symbol_list (means table.old)) }
-    ensures answer { result ≡ not (endless (view (means table.old).table) s) }
-    ensures kept { means table.new ≡ means table.old }
+    requires { symbols ≡ length (symbol_list (T.means table.old)) }
+    ensures answer { result ≡ not (endless (view (T.means table.old).table) s) }
+    ensures kept { T.means table.new ≡ T.means table.old }
 {
     let mut at = s;
     for i in 0..symbols {
@@ -46,9 +46,9 @@ fn check_link<'t, T: LinkTable<'t>>(
     symbols: usize,
     s: usize,
 ) -> Result<(), Fault<T::Place>>
-    requires { (symbols ≡ length (symbol_list (means table.old))) × (s < symbols) }
-    ensures answer { result ≡ one_of link_check symbol_list (means table.old) s }
-    ensures kept { means table.new ≡ means table.old }
+    requires { (symbols ≡ length (symbol_list (T.means table.old))) × (s < symbols) }
+    ensures answer { result ≡ one_of link_check symbol_list (T.means table.old) s }
+    ensures kept { T.means table.new ≡ T.means table.old }
 {
     if is_ending(table, symbols, s) {
         return Ok(());
@@ -66,9 +66,9 @@ fn check_symbols_links<'t, T: LinkTable<'t>>(
     table: &mut T,
     symbols: usize,
 ) -> Result<(), Fault<T::Place>>
-    requires { symbols ≡ length (symbol_list (means table.old)) }
-    ensures answer { result ≡ all_of link_check symbol_list (means table.old) }
-    ensures kept { means table.new ≡ means table.old }
+    requires { symbols ≡ length (symbol_list (T.means table.old)) }
+    ensures answer { result ≡ all_of link_check symbol_list (T.means table.old) }
+    ensures kept { T.means table.new ≡ T.means table.old }
 {
     for s in 0..symbols {
         check_link(table, symbols, s)?;
@@ -78,8 +78,8 @@ fn check_symbols_links<'t, T: LinkTable<'t>>(
 
 // Refuses the lowest symbol whose chain of links has no end.
 pub fn check_links<'t, T: LinkTable<'t>>(table: &mut T) -> Result<(), Fault<T::Place>>
-    ensures answer { result ≡ links_checked (means table.old).place (means table.old).table }
-    ensures kept { means table.new ≡ means table.old }
+    ensures answer { result ≡ links_checked (T.means table.old).place (T.means table.old).table }
+    ensures kept { T.means table.new ≡ T.means table.old }
 {
     let symbols = table.symbol_count();
     check_symbols_links(table, symbols)

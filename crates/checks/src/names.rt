@@ -22,8 +22,8 @@ fn is_same(a: &[u8], b: &[u8]) -> bool
 
 // Export `i` of module `m` has the name.
 fn is_named<'t, T: LinkTable<'t>>(table: &mut T, m: usize, i: usize, name: &[u8]) -> bool
-    ensures answer { result ≡ if_some (has_name name.now) (slice_get (export_list m (means table.old)) i) }
-    ensures kept { means table.new ≡ means table.old }
+    ensures answer { result ≡ if_some (has_name name.now) (slice_get (export_list m (T.means table.old)) i) }
+    ensures kept { T.means table.new ≡ T.means table.old }
 {
     let Some(export) = table.export(m, i) else {
         return false;
@@ -33,8 +33,8 @@ fn is_named<'t, T: LinkTable<'t>>(table: &mut T, m: usize, i: usize, name: &[u8]
 
 // An export of module `m` before number `i` has the name.
 fn is_named_before<'t, T: LinkTable<'t>>(table: &mut T, m: usize, i: usize, name: &[u8]) -> bool
-    ensures answer { result ≡ some_of (has_name name.now) (take i (export_list m (means table.old))) }
-    ensures kept { means table.new ≡ means table.old }
+    ensures answer { result ≡ some_of (has_name name.now) (take i (export_list m (T.means table.old))) }
+    ensures kept { T.means table.new ≡ T.means table.old }
 {
     for j in 0..i {
         if is_named(table, m, j, name) {
@@ -50,8 +50,8 @@ fn check_name<'t, T: LinkTable<'t>>(
     m: usize,
     i: usize,
 ) -> Result<(), Fault<T::Place>>
-    ensures answer { result ≡ one_of (name_check m) (export_list m) (means table.old) i }
-    ensures kept { means table.new ≡ means table.old }
+    ensures answer { result ≡ one_of (name_check m) (export_list m) (T.means table.old) i }
+    ensures kept { T.means table.new ≡ T.means table.old }
 {
     let Some(export) = table.export(m, i) else {
         return Ok(());
@@ -68,9 +68,9 @@ fn check_module_names<'t, T: LinkTable<'t>>(
     m: usize,
     count: usize,
 ) -> Result<(), Fault<T::Place>>
-    requires { count ≡ length (export_list m (means table.old)) }
-    ensures answer { result ≡ all_of (name_check m) (export_list m) (means table.old) }
-    ensures kept { means table.new ≡ means table.old }
+    requires { count ≡ length (export_list m (T.means table.old)) }
+    ensures answer { result ≡ all_of (name_check m) (export_list m) (T.means table.old) }
+    ensures kept { T.means table.new ≡ T.means table.old }
 {
     for i in 0..count {
         check_name(table, m, i)?;
@@ -80,8 +80,8 @@ fn check_module_names<'t, T: LinkTable<'t>>(
 
 // The names of module `m`, if it is there.
 fn check_names_at<'t, T: LinkTable<'t>>(table: &mut T, m: usize) -> Result<(), Fault<T::Place>>
-    ensures answer { result ≡ one_of names_check module_list (means table.old) m }
-    ensures kept { means table.new ≡ means table.old }
+    ensures answer { result ≡ one_of names_check module_list (T.means table.old) m }
+    ensures kept { T.means table.new ≡ T.means table.old }
 {
     let Some(info) = table.module(m) else {
         return Ok(());
@@ -94,9 +94,9 @@ fn check_modules_names<'t, T: LinkTable<'t>>(
     table: &mut T,
     modules: usize,
 ) -> Result<(), Fault<T::Place>>
-    requires { modules ≡ length (module_list (means table.old)) }
-    ensures answer { result ≡ all_of names_check module_list (means table.old) }
-    ensures kept { means table.new ≡ means table.old }
+    requires { modules ≡ length (module_list (T.means table.old)) }
+    ensures answer { result ≡ all_of names_check module_list (T.means table.old) }
+    ensures kept { T.means table.new ≡ T.means table.old }
 {
     for m in 0..modules {
         check_names_at(table, m)?;
@@ -106,8 +106,8 @@ fn check_modules_names<'t, T: LinkTable<'t>>(
 
 // Refuses the first export whose name an earlier export of its module has.
 pub fn check_names<'t, T: LinkTable<'t>>(table: &mut T) -> Result<(), Fault<T::Place>>
-    ensures answer { result ≡ names_checked (means table.old).place (means table.old).table }
-    ensures kept { means table.new ≡ means table.old }
+    ensures answer { result ≡ names_checked (T.means table.old).place (T.means table.old).table }
+    ensures kept { T.means table.new ≡ T.means table.old }
 {
     let modules = table.module_count();
     check_modules_names(table, modules)

@@ -9,9 +9,9 @@ use tables::thing::Field;
 
 // Refuses `words` under what a plan over the table needs.
 pub fn check_words<'t, T: LinkTable<'t>>(table: &mut T, words: usize) -> Result<(), Fault<T::Place>>
-    requires { (length (means table.old).table.modules ≤ 4096) × (length (means table.old).table.entries ≤ 256) }
-    ensures answer { result ≡ words_checked words (means table.old).table }
-    ensures kept { means table.new ≡ means table.old }
+    requires { (length (T.means table.old).table.modules ≤ 4096) × (length (T.means table.old).table.entries ≤ 256) }
+    ensures answer { result ≡ words_checked words (T.means table.old).table }
+    ensures kept { T.means table.new ≡ T.means table.old }
 {
     let modules = table.module_count();
     let entries = table.entry_count();

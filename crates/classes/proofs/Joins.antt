@@ -1,12 +1,12 @@
 -- The classes of the rows of a table's modules are the table's atoms.
-use Rattle.std.proofs.Common.{◌≡◌, ℕ, ◌+◌, ◌*◌, ◌/◌, ◌<◌, ◌≤◌, true, List, length, get_or, Some, sym, ap, ◌∙◌, inl, inr, ⊎_elim, arith}
+use Rattle.std.proofs.Common.{◌≡◌, ℕ, ◌+◌, ◌*◌, ◌/◌, ◌<◌, true, List, length, get_or, Some, sym, ap, ◌∙◌, inl, inr, ⊎_elim, arith}
 use Rattle.std.proofs.lemmas.Bool.{cases_Bool}
 use Rattle.tables.specs.View.{View, module_count, entry_count}
-use Rattle.rows.specs.Bits.{has as has-bit}
-use Rattle.rows.proofs.Laws.{has-frame}
+use Rattle.rows.specs.Bits.{has as has_bit}
+use Rattle.rows.proofs.Laws.{has_frame}
 use Rattle.definitions.specs.Classes.{leasts, classes, class}
 use Rattle.definitions.specs.Bits.{has, atoms, atom, whole}
-use Rattle.definitions.proofs.Bits.{has-below}
+use Rattle.definitions.proofs.Bits.{has_below}
 use Rattle.definitions.proofs.Atoms.{whole_has}
 use Rattle.classes.specs.Numbering.{row_has, SaysRows, stored, Numbering, Outside, Over}
 use Rattle.classes.specs.Copies.{CopyRoom, Copied}
@@ -16,9 +16,9 @@ use Rattle.classes.proofs.Steps.{firsts_below}
 use Rattle.classes.proofs.Widths.{leasts_are, class_is}
 
 -- the least module of atom a is of atom a
-pub least-atom : (t : View) (a : ℕ) → a < atoms t → (least_module t a < module_count t) × (atom t (least_module t a) ≡ Some a)
+pub least_atom : (t : View) (a : ℕ) → a < atoms t → (least_module t a < module_count t) × (atom t (least_module t a) ≡ Some a)
 unfolding atom atoms
-least-atom t a l = (leader_below (module_count t) (entry_count t) (has t) a l, leader_class (module_count t) (entry_count t) (has t) a l)
+least_atom t a l = (leader_below (module_count t) (entry_count t) (has t) a l, leader_class (module_count t) (entry_count t) (has t) a l)
 
 -- the rows of the modules, as bits of 256, have the table's atoms as classes
 module _ {t : View} {rows n : ℕ} {ws : List ℕ} (says : SaysBits t rows n ws) where
@@ -28,7 +28,7 @@ module _ {t : View} {rows n : ℕ} {ws : List ℕ} (says : SaysBits t rows n ws)
       record {
         narrow = says.entries;
         bits_are = λ m e l b. says.bits m e (omega arith) b;
-        none = λ m e l b h. ⊎_elim (λ (x : has t m e ≡ true). let below = (has-below t m e x).1 in absurd (omega arith)) (λ x. x) (cases_Bool (has t m e));
+        none = λ m e l b h. ⊎_elim (λ (x : has t m e ≡ true). let below = (has_below t m e x).1 in absurd (omega arith)) (λ x. x) (cases_Bool (has t m e));
       }
 
   least_is : leasts (module_count t) (entry_count t) (has t) ≡ leasts n 256 (row_has rows ws)
@@ -75,20 +75,20 @@ module _ {rows n numbers firsts wholes count : ℕ} (ws : List ℕ) {us : List �
         }
 
     module _ {t : View} (says : SaysBits t rows n ws) where
-      row_stays : (m e : ℕ) → m < n → e < 256 → has-bit us (rows + 4 * m) e ≡ has t m e
+      row_stays : (m e : ℕ) → m < n → e < 256 → has_bit us (rows + 4 * m) e ≡ has t m e
       unfolding row_has
       row_stays m e l b = s.rows_are m e l b ∙ says.bits m e l b
 
       first_is : (a : ℕ) → a < count → get_or us (firsts + a) 0 ≡ least_module t a
       first_is a l = s.first a l ∙ ap (λ xs. get_or xs a 0) (sym (least_is says))
 
-      atom-row : (a e : ℕ) → a < count → e < 256 → has-bit vs (wholes + 4 * a) e ≡ whole t a e
-      atom-row a e l b =
+      atom_row : (a e : ℕ) → a < count → e < 256 → has_bit vs (wholes + 4 * a) e ≡ whole t a e
+      atom_row a e l b =
           let is = s.counts in
           let are = atoms_are says in
           let modules = says.modules in
-          let q = least-atom t a (omega arith) in
-          c.copied a e l b ∙ ap (λ m. has-bit us (rows + 4 * m) e) (first_is a l) ∙ row_stays (least_module t a) e (omega arith) b ∙ sym (whole_has t (least_module t a) a e q.1)
+          let q = least_atom t a (omega arith) in
+          c.copied a e l b ∙ ap (λ m. has_bit us (rows + 4 * m) e) (first_is a l) ∙ row_stays (least_module t a) e (omega arith) b ∙ sym (whole_has t (least_module t a) a e q.1)
 
       pub grouped : Atoms t rows n numbers firsts wholes count vs
       grouped =
@@ -101,13 +101,13 @@ module _ {rows n numbers firsts wholes count : ℕ} (ws : List ℕ) {us : List �
             modules = record {
               modules = says.modules;
               entries = says.entries;
-              bits = λ m e l b. has-frame vs us (rows + 4 * m) e (c.outside (rows + 4 * m + e / 64) (inl (omega arith))) ∙ row_stays m e l b;
+              bits = λ m e l b. has_frame vs us (rows + 4 * m) e (c.outside (rows + 4 * m + e / 64) (inl (omega arith))) ∙ row_stays m e l b;
             };
             counts = s.counts ∙ sym (atoms_are says);
             at_most = s.at_most;
             number = λ m l. c.outside (numbers + m) (inl (omega arith)) ∙ s.number m l ∙ ap stored (sym (atom_is says m l));
             first = λ a l. c.outside (firsts + a) (inl (omega arith)) ∙ first_is a l;
-            bits = atom-row;
+            bits = atom_row;
           }
 
 -- there are too many atoms, and no row is copied

@@ -6,7 +6,7 @@ use Rattle.std.proofs.lemmas.Bool.{cases_lt, and_parts, cases_Bool, both_ways, n
 use Rattle.tables.specs.Below.{some_below, those_below}
 use Rattle.definitions.specs.Classes.{Rows, same_row, least, leasts, classes, class}
 use Rattle.definitions.proofs.Below.{some_below_decides}
-use Rattle.definitions.proofs.Classes.{same-row_decides, those_pass}
+use Rattle.definitions.proofs.Classes.{same_row_decides, those_pass}
 use Rattle.classes.proofs.Placing.{place_at}
 
 at_end : (xs : List ℕ) (n a : ℕ) → a ≡ length xs → get_or (xs ++ (n ∷ [])) a 0 ≡ n
@@ -61,5 +61,5 @@ module _ (n w : ℕ) (bits : Rows) (a : ℕ) where
   unfolding class classes
   leader_class l =
       place_at (λ j. same_row w bits j (get_or (leasts n w bits) a 0)) (leasts n w bits) 0 a l
-      ((same-row_decides n w bits (get_or (leasts n w bits) a 0) (get_or (leasts n w bits) a 0)).1 (λ k b. refl))
+      ((same_row_decides n w bits (get_or (leasts n w bits) a 0) (get_or (leasts n w bits) a 0)).1 (λ k b. refl))
       (λ j h. other (get_or (leasts n w bits) a 0) (get_or (leasts n w bits) j 0) (leader_rises j h l) (leader_least l))

@@ -6,7 +6,7 @@ use Rattle.rows.specs.Bits.{Next}
 use Rattle.tables.specs.Below.{some_below, place, next}
 use Rattle.definitions.specs.Classes.{Rows, same_row, least, leasts, classes, class}
 use Rattle.definitions.proofs.Below.{some_below_decides}
-use Rattle.definitions.proofs.Classes.{same-row_decides, class_in, class_like, class_some}
+use Rattle.definitions.proofs.Classes.{same_row_decides, class_in, class_like, class_some}
 
 -- ---- the first place that passes
 
@@ -59,11 +59,11 @@ module _ (w : ℕ) (bits : Rows) (m : ℕ) where
   unfolding leasts
   leasts_more = rw add-one
 
-  pub leasts-same : least w bits m ≡ false → leasts (m + 1) w bits ≡ leasts m w bits
-  leasts-same h = leasts_more ∙ ap (λ b. leasts m w bits ++ cond b (m ∷ []) []) h ∙ append-nil (leasts m w bits)
+  pub leasts_same : least w bits m ≡ false → leasts (m + 1) w bits ≡ leasts m w bits
+  leasts_same h = leasts_more ∙ ap (λ b. leasts m w bits ++ cond b (m ∷ []) []) h ∙ append-nil (leasts m w bits)
 
-  pub leasts-new : least w bits m ≡ true → leasts (m + 1) w bits ≡ leasts m w bits ++ (m ∷ [])
-  leasts-new h = leasts_more ∙ ap (λ b. leasts m w bits ++ cond b (m ∷ []) []) h
+  pub leasts_new : least w bits m ≡ true → leasts (m + 1) w bits ≡ leasts m w bits ++ (m ∷ [])
+  leasts_new h = leasts_more ∙ ap (λ b. leasts m w bits ++ cond b (m ∷ []) []) h
 
   -- the row is empty
   pub empty_not_least : ((k : ℕ) → k < w → bits m k ≡ false) → least w bits m ≡ false
@@ -79,7 +79,7 @@ module _ (w : ℕ) (bits : Rows) (m : ℕ) where
     where
       go : (o : Option ℕ) → class m w bits m ≡ o → class m w bits m ≡ None
       go None e = e
-      go (Some c) e = let q = class_in m w bits m c e in absurd (both_ways _ (none q.bit q.bit_below) q.has-bit)
+      go (Some c) e = let q = class_in m w bits m c e in absurd (both_ways _ (none q.bit q.bit_below) q.has_bit)
 
   -- the row is as an earlier one
   and_false : (a b : Bool) → b ≡ true → (a && not b) ≡ false
@@ -91,12 +91,12 @@ module _ (w : ℕ) (bits : Rows) (m : ℕ) where
   found_not_least c h =
       let q = class_in m w bits m c h in
       and_false (some_below w (bits m)) (some_below m (λ j. same_row w bits j m))
-      ((some_below_decides (λ j. same_row w bits j m) (λ j. (k : ℕ) → k < w → bits j k ≡ bits m k) (λ j. same-row_decides m w bits j m) m).1 (_, q.least-below, q.equal))
+      ((some_below_decides (λ j. same_row w bits j m) (λ j. (k : ℕ) → k < w → bits j k ≡ bits m k) (λ j. same_row_decides m w bits j m) m).1 (_, q.least_below, q.equal))
 
   -- the row is new
-  pub new-least : (((k : ℕ) → k < w → bits m k ≡ false) → ⊥) → class m w bits m ≡ None → least w bits m ≡ true
+  pub new_least : (((k : ℕ) → k < w → bits m k ≡ false) → ⊥) → class m w bits m ≡ None → least w bits m ≡ true
   unfolding least
-  new-least some none = and_from _ _ (nonempty (cases_Bool (some_below w (bits m)))) (not_from_false _ (fresh (cases_Bool (some_below m (λ j. same_row w bits j m)))))
+  new_least some none = and_from _ _ (nonempty (cases_Bool (some_below w (bits m)))) (not_from_false _ (fresh (cases_Bool (some_below m (λ j. same_row w bits j m)))))
     where
       nonempty : ((some_below w (bits m) ≡ true) ⊎ (some_below w (bits m) ≡ false)) → some_below w (bits m) ≡ true
       nonempty (inl h) = h
@@ -106,7 +106,7 @@ module _ (w : ℕ) (bits : Rows) (m : ℕ) where
       fresh : ((some_below m (λ j. same_row w bits j m) ≡ true) ⊎ (some_below m (λ j. same_row w bits j m) ≡ false)) → some_below m (λ j. same_row w bits j m) ≡ false
       fresh (inr h) = h
       fresh (inl h) =
-          let q = (some_below_decides (λ j. same_row w bits j m) (λ j. (k : ℕ) → k < w → bits j k ≡ bits m k) (λ j. same-row_decides m w bits j m) m).0 h in
+          let q = (some_below_decides (λ j. same_row w bits j m) (λ j. (k : ℕ) → k < w → bits j k ≡ bits m k) (λ j. same_row_decides m w bits j m) m).0 h in
           let b = (some_below_decides (bits m) (λ k. bits m k ≡ true) (λ k. (λ x. x, λ x. x)) w).0 (nonempty (cases_Bool (some_below w (bits m)))) in
           let c = class_some m w bits q.0 b.0 q.1 b.1 (q.2 b.0 b.1 ∙ b.2) in
           let is = sym none ∙ sym (class_like m w bits q.0 m q.2) ∙ c.1 in
@@ -116,17 +116,17 @@ module _ (w : ℕ) (bits : Rows) (m : ℕ) where
 
   pub class_same : least w bits m ≡ false → (i : ℕ) → class (m + 1) w bits i ≡ class m w bits i
   unfolding class
-  class_same h i = ap (place (λ j. same_row w bits j i)) (leasts-same h)
+  class_same h i = ap (place (λ j. same_row w bits j i)) (leasts_same h)
 
-  pub class-new : least w bits m ≡ true → class m w bits m ≡ None → class (m + 1) w bits m ≡ Some (classes m w bits)
+  pub class_new : least w bits m ≡ true → class m w bits m ≡ None → class (m + 1) w bits m ≡ Some (classes m w bits)
   unfolding class classes
-  class-new h none =
-      ap (place (λ j. same_row w bits j m)) (leasts-new h) ∙ place_last (λ j. same_row w bits j m) (leasts m w bits) m none
-      ∙ cond-true (same_row w bits m m) (Some (length (leasts m w bits))) None ((same-row_decides m w bits m m).1 (λ k l. refl))
+  class_new h none =
+      ap (place (λ j. same_row w bits j m)) (leasts_new h) ∙ place_last (λ j. same_row w bits j m) (leasts m w bits) m none
+      ∙ cond-true (same_row w bits m m) (Some (length (leasts m w bits))) None ((same_row_decides m w bits m m).1 (λ k l. refl))
 
   pub class_old : least w bits m ≡ true → (i : ℕ) → i < m → class (m + 1) w bits i ≡ class m w bits i
   unfolding class least
-  class_old h i l = ap (place (λ j. same_row w bits j i)) (leasts-new h) ∙ go (class m w bits i) refl
+  class_old h i l = ap (place (λ j. same_row w bits j i)) (leasts_new h) ∙ go (class m w bits i) refl
     where
       go : (o : Option ℕ) → class m w bits i ≡ o → place (λ j. same_row w bits j i) (leasts m w bits ++ (m ∷ [])) ≡ class m w bits i
       go (Some c) e = place_more (λ j. same_row w bits j i) (leasts m w bits) (m ∷ []) c e ∙ sym e
@@ -137,7 +137,7 @@ module _ (w : ℕ) (bits : Rows) (m : ℕ) where
           other : same_row w bits m i ≡ true → ⊥
           other t =
               let b = (some_below_decides (bits m) (λ k. bits m k ≡ true) (λ k. (λ x. x, λ x. x)) w).0 (and_parts _ _ h).0 in
-              let c = class_some m w bits i b.0 l b.1 (sym ((same-row_decides m w bits m i).0 t b.0 b.1) ∙ b.2) in
+              let c = class_some m w bits i b.0 l b.1 (sym ((same_row_decides m w bits m i).0 t b.0 b.1) ∙ b.2) in
               let is = sym e ∙ c.1 in
               let z : ◌≡◌ {A = ℕ} 0 1 = cc in omega arith
 
@@ -160,9 +160,9 @@ module _ (w : ℕ) (bits : Rows) (m : ℕ) where
           let new = cond (least w bits n) (n ∷ []) [] in
           (q.0 ++ new, ap (λ xs. xs ++ new) q.1 ∙ append_assoc (leasts m w bits) q.0 new)
 
-  pub leasts-on : (n a d : ℕ) → m ≤ n → a < classes m w bits → (a < classes n w bits) × (get_or (leasts n w bits) a d ≡ get_or (leasts m w bits) a d)
+  pub leasts_on : (n a d : ℕ) → m ≤ n → a < classes m w bits → (a < classes n w bits) × (get_or (leasts n w bits) a d ≡ get_or (leasts m w bits) a d)
   unfolding classes
-  leasts-on n a d l h =
+  leasts_on n a d l h =
       let q = grown n l in
       let long = ap length q.1 ∙ length-append (leasts m w bits) q.0 in
       (omega arith, ap (λ xs. get_or xs a d) q.1 ∙ get_or_append_left (leasts m w bits) q.0 d a h)

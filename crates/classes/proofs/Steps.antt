@@ -5,28 +5,28 @@ use Rattle.std.proofs.lemmas.Bool.{cases_eq, both_ways}
 use Rattle.std.proofs.lemmas.Bool.Decides.{same_from_decides}
 use Rattle.std.proofs.ByRecursion.{All-get_or}
 use Rattle.rows.specs.Bits.{has, Next}
-use Rattle.rows.proofs.Laws.{has-frame}
+use Rattle.rows.proofs.Laws.{has_frame}
 use Rattle.definitions.specs.Classes.{Rows, same_row, least, leasts, classes, class}
-use Rattle.definitions.proofs.Classes.{same-row_decides, those_pass}
+use Rattle.definitions.proofs.Classes.{same_row_decides, those_pass}
 use Rattle.classes.specs.Numbering.{row_has, Layout, same_as, Firsts, stored, Numbering, Outside, Over}
-use Rattle.classes.proofs.Placing.{place_next, leasts-same, leasts-new, class_same, class-new, class_old, leasts-on}
+use Rattle.classes.proofs.Placing.{place_next, leasts_same, leasts_new, class_same, class_new, class_old, leasts_on}
 
 -- a row in words that are equal there
-row-frame : (rows i k : ℕ) (ws vs : List ℕ) → ((j : ℕ) → j < rows + 4 * i + 4 → get_or vs j 0 ≡ get_or ws j 0) → k < 256 → row_has rows vs i k ≡ row_has rows ws i k
+row_frame : (rows i k : ℕ) (ws vs : List ℕ) → ((j : ℕ) → j < rows + 4 * i + 4 → get_or vs j 0 ≡ get_or ws j 0) → k < 256 → row_has rows vs i k ≡ row_has rows ws i k
 unfolding row_has
-row-frame rows i k ws vs same h = has-frame vs ws (rows + 4 * i) k (same (rows + 4 * i + k / 64) (omega arith))
+row_frame rows i k ws vs same h = has_frame vs ws (rows + 4 * i) k (same (rows + 4 * i + k / 64) (omega arith))
 
 same_rows : (b c : Rows) (i j : ℕ) → ((k : ℕ) → k < 256 → b i k ≡ c i k) → ((k : ℕ) → k < 256 → b j k ≡ c j k) → same_row 256 b i j ≡ same_row 256 c i j
 same_rows b c i j p q =
-    same_from_decides _ _ (same-row_decides 0 256 b i j)
-    (λ h k l. p k l ∙ (same-row_decides 0 256 c i j).0 h k l ∙ sym (q k l), λ h. (same-row_decides 0 256 c i j).1 (λ k l. sym (p k l) ∙ h k l ∙ q k l))
+    same_from_decides _ _ (same_row_decides 0 256 b i j)
+    (λ h k l. p k l ∙ (same_row_decides 0 256 c i j).0 h k l ∙ sym (q k l), λ h. (same_row_decides 0 256 c i j).1 (λ k l. sym (p k l) ∙ h k l ∙ q k l))
 
 -- ---- the search for a class
 
 pub same_is : (rows firsts : ℕ) (ws : List ℕ) (i a : ℕ) (b : Bool)
     → Decides b ((k : ℕ) → k < 256 → has ws (rows + 4 * get_or ws (firsts + a) 0) k ≡ has ws (rows + 4 * i) k) → b ≡ same_as rows firsts ws i a
 unfolding same_as row_has
-same_is rows firsts ws i a b d = same_from_decides b _ d (same-row_decides 0 256 (row_has rows ws) (get_or ws (firsts + a) 0) i)
+same_is rows firsts ws i a b d = same_from_decides b _ d (same_row_decides 0 256 (row_has rows ws) (get_or ws (firsts + a) 0) i)
 
 -- ---- a row is numbered
 
@@ -41,9 +41,9 @@ module _ {bits : Rows} {rows n numbers firsts most m count : ℕ} {ws : List ℕ
   firsts_below h a l = subst (λ x. x < n) (sym (s.first a l)) (let small = first_below a l in omega arith)
 
   module _ (layout : Layout rows n numbers firsts most (length ws)) (small : m < n) where
-    pub row-empty : (b : Bool) → Decides b ((k : ℕ) → k < 256 → has ws (rows + 4 * m) k ≡ false) → b ≡ true → (k : ℕ) → k < 256 → bits m k ≡ false
+    pub row_empty : (b : Bool) → Decides b ((k : ℕ) → k < 256 → has ws (rows + 4 * m) k ≡ false) → b ≡ true → (k : ℕ) → k < 256 → bits m k ≡ false
     unfolding row_has
-    row-empty b d h k l = sym (s.rows_are m k small l) ∙ d.0 h k l
+    row_empty b d h k l = sym (s.rows_are m k small l) ∙ d.0 h k l
 
     pub row_some : (b : Bool) → Decides b ((k : ℕ) → k < 256 → has ws (rows + 4 * m) k ≡ false) → b ≡ false → ((k : ℕ) → k < 256 → bits m k ≡ false) → ⊥
     unfolding row_has
@@ -70,11 +70,11 @@ module _ {bits : Rows} {rows n numbers firsts most m count : ℕ} {ws : List ℕ
         let other : (j : ℕ) → (j ≡ numbers + m → ⊥) → get_or (set ws (numbers + m) x) j 0 ≡ get_or ws j 0 = λ j ne. get_or-set_other ws (numbers + m) j x 0 ne in
         let at_most = s.at_most in
         record {
-          rows_are = λ i k l b. row-frame rows i k ws (set ws (numbers + m) x) (λ j c. other j (λ e. omega arith)) b ∙ s.rows_are i k l b;
-          counts = s.counts ∙ ap length (sym (leasts-same 256 bits m h));
+          rows_are = λ i k l b. row_frame rows i k ws (set ws (numbers + m) x) (λ j c. other j (λ e. omega arith)) b ∙ s.rows_are i k l b;
+          counts = s.counts ∙ ap length (sym (leasts_same 256 bits m h));
           at_most = s.at_most;
           few = let few = s.few in omega arith;
-          first = λ a l. other (firsts + a) (λ e. omega arith) ∙ s.first a l ∙ ap (λ xs. get_or xs a 0) (sym (leasts-same 256 bits m h));
+          first = λ a l. other (firsts + a) (λ e. omega arith) ∙ s.first a l ∙ ap (λ xs. get_or xs a 0) (sym (leasts_same 256 bits m h));
           number = λ i l.
               ⊎_elim
               (λ (e : i ≡ m).
@@ -85,20 +85,20 @@ module _ {bits : Rows} {rows n numbers firsts most m count : ℕ} {ws : List ℕ
         }
 
     module _ (new : least 256 bits m ≡ true) (none : class m 256 bits m ≡ None) where
-      classes-new : classes (m + 1) 256 bits ≡ count + 1
+      classes_new : classes (m + 1) 256 bits ≡ count + 1
       unfolding classes
-      classes-new =
+      classes_new =
           let is = s.counts in
-          let long = ap length (leasts-new 256 bits m new) ∙ length-append (leasts m 256 bits) (m ∷ []) in omega arith
+          let long = ap length (leasts_new 256 bits m new) ∙ length-append (leasts m 256 bits) (m ∷ []) in omega arith
 
       leasts_old : (a : ℕ) → a < count → get_or (leasts (m + 1) 256 bits) a 0 ≡ get_or (leasts m 256 bits) a 0
       unfolding classes
-      leasts_old a l = let is = s.counts in ap (λ xs. get_or xs a 0) (leasts-new 256 bits m new) ∙ get_or_append_left (leasts m 256 bits) (m ∷ []) 0 a (omega arith)
+      leasts_old a l = let is = s.counts in ap (λ xs. get_or xs a 0) (leasts_new 256 bits m new) ∙ get_or_append_left (leasts m 256 bits) (m ∷ []) 0 a (omega arith)
 
       leasts_last : get_or (leasts (m + 1) 256 bits) count 0 ≡ m
       unfolding classes
       leasts_last =
-          ap (λ xs. get_or xs count 0) (leasts-new 256 bits m new) ∙ ap (λ k. get_or (leasts m 256 bits ++ (m ∷ [])) k 0) s.counts ∙ at_end (leasts m 256 bits)
+          ap (λ xs. get_or xs count 0) (leasts_new 256 bits m new) ∙ ap (λ k. get_or (leasts m 256 bits ++ (m ∷ [])) k 0) s.counts ∙ at_end (leasts m 256 bits)
         where
           at_end : (xs : List ℕ) → get_or (xs ++ (m ∷ [])) (length xs) 0 ≡ m
           at_end [] = refl
@@ -106,12 +106,12 @@ module _ {bits : Rows} {rows n numbers firsts most m count : ℕ} {ws : List ℕ
 
       pub number_over : count ≡ most → Over bits (m + 1) most m
       number_over full = record {
-        many = let is = classes-new in omega arith;
+        many = let is = classes_new in omega arith;
         which = sym leasts_last ∙ ap (λ k. get_or (leasts (m + 1) 256 bits) k 0) full;
       }
 
-      pub number-new : count < most → Numbering bits rows n numbers firsts most (m + 1) (count + 1) (set (set ws (firsts + count) m) (numbers + m) (count + 1))
-      number-new more =
+      pub number_new : count < most → Numbering bits rows n numbers firsts most (m + 1) (count + 1) (set (set ws (firsts + count) m) (numbers + m) (count + 1))
+      number_new more =
           let few = s.few in
           let order = layout.order in
           let between = layout.between in
@@ -121,8 +121,8 @@ module _ {bits : Rows} {rows n numbers firsts most m count : ℕ} {ws : List ℕ
           let other : (j : ℕ) → (j ≡ numbers + m → ⊥) → get_or (set vs (numbers + m) x) j 0 ≡ get_or vs j 0 = λ j ne. get_or-set_other vs (numbers + m) j x 0 ne in
           let before : (j : ℕ) → (j ≡ firsts + count → ⊥) → get_or vs j 0 ≡ get_or ws j 0 = λ j ne. get_or-set_other ws (firsts + count) j m 0 ne in
           record {
-            rows_are = λ i k l b. row-frame rows i k ws (set vs (numbers + m) x) (λ j c. other j (λ e. omega arith) ∙ before j (λ e. omega arith)) b ∙ s.rows_are i k l b;
-            counts = sym classes-new;
+            rows_are = λ i k l b. row_frame rows i k ws (set vs (numbers + m) x) (λ j c. other j (λ e. omega arith) ∙ before j (λ e. omega arith)) b ∙ s.rows_are i k l b;
+            counts = sym classes_new;
             at_most = omega arith;
             few = omega arith;
             first = λ a l.
@@ -136,7 +136,7 @@ module _ {bits : Rows} {rows n numbers firsts most m count : ℕ} {ws : List ℕ
                 ⊎_elim
                 (λ (e : i ≡ m).
                 ap (λ j. get_or (set vs (numbers + m) x) (numbers + j) 0) e ∙ get_or-set_same vs (numbers + m) x 0 (subst (λ k. numbers + m < k) (sym (length-set ws (firsts + count) m)) (omega arith))
-                ∙ ap (λ k. k + 1) s.counts ∙ ap stored (sym (class-new 256 bits m new none)) ∙ ap (λ j. stored (class (m + 1) 256 bits j)) (sym e))
+                ∙ ap (λ k. k + 1) s.counts ∙ ap stored (sym (class_new 256 bits m new none)) ∙ ap (λ j. stored (class (m + 1) 256 bits j)) (sym e))
                 (λ (ne : i ≡ m → ⊥). other (numbers + i) (λ e. ne (omega arith)) ∙ before (numbers + i) (λ q. omega arith) ∙ s.number i (omega arith) ∙ ap stored (sym (class_old 256 bits m new i (omega arith))))
                 (cases_eq i m);
           }
@@ -156,7 +156,7 @@ number_none rows n numbers firsts most ws = record {
 
 pub over_on : (bits : Rows) (m n most : ℕ) → m < n → Over bits (m + 1) most m → Over bits n most m
 over_on bits m n most l o =
-    let q = leasts-on 256 bits (m + 1) n most 0 (omega arith) o.many in
+    let q = leasts_on 256 bits (m + 1) n most 0 (omega arith) o.many in
     record { many = q.0; which = o.which ∙ sym q.1 }
 
 -- what stays
@@ -167,8 +167,8 @@ module _ (rows n numbers firsts most m : ℕ) (ws : List ℕ) (layout : Layout r
       let between = layout.between in
       get_or-set_other ws (numbers + m) k x 0 (⊎_elim (λ (l : k < numbers) e. omega arith) (λ (l : firsts + min n most ≤ k) e. omega arith) o)
 
-  pub outside-two : (count x : ℕ) → count < most → count ≤ m → Outside n numbers firsts most ws (set (set ws (firsts + count) m) (numbers + m) x)
-  outside-two count x more few k o =
+  pub outside_two : (count x : ℕ) → count < most → count ≤ m → Outside n numbers firsts most ws (set (set ws (firsts + count) m) (numbers + m) x)
+  outside_two count x more few k o =
       let between = layout.between in
       get_or-set_other (set ws (firsts + count) m) (numbers + m) k x 0 (⊎_elim (λ (l : k < numbers) e. omega arith) (λ (l : firsts + min n most ≤ k) e. omega arith) o)
       ∙ get_or-set_other ws (firsts + count) k m 0 (⊎_elim (λ (l : k < numbers) e. omega arith) (λ (l : firsts + min n most ≤ k) e. omega arith) o)

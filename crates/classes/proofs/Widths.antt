@@ -7,7 +7,7 @@ use Rattle.std.proofs.lemmas.Bool.Decides.{same_from_decides}
 use Rattle.tables.specs.Below.{some_below, those_below, place, next}
 use Rattle.definitions.specs.Classes.{Rows, same_row, least, leasts, classes, class}
 use Rattle.definitions.proofs.Below.{some_below_decides}
-use Rattle.definitions.proofs.Classes.{same-row_decides, those_pass}
+use Rattle.definitions.proofs.Classes.{same_row_decides, those_pass}
 use Rattle.classes.specs.Numbering.{row_has, SaysRows}
 
 some_same : (p q : ℕ → Bool) (n : ℕ) → ((k : ℕ) → k < n → p k ≡ q k) → some_below n p ≡ some_below n q
@@ -25,9 +25,9 @@ place_same p q (x ∷ xs) h = ap₂ (λ b o. cond b (Some 0) (next o)) h.0 (plac
 module _ (n v w : ℕ) (narrow : v ≤ w) (b c : Rows) (same : (i k : ℕ) → i < n → k < v → c i k ≡ b i k) (rest : (i k : ℕ) → i < n → v ≤ k → k < w → c i k ≡ false) where
   same_rows : (i j : ℕ) → i < n → j < n → same_row v b i j ≡ same_row w c i j
   same_rows i j l m =
-      same_from_decides _ _ (same-row_decides n v b i j) (
-        λ h k a. sym (same i k l a) ∙ (same-row_decides n w c i j).0 h k (omega arith) ∙ same j k m a,
-        λ h. (same-row_decides n w c i j).1 (λ k a.
+      same_from_decides _ _ (same_row_decides n v b i j) (
+        λ h k a. sym (same i k l a) ∙ (same_row_decides n w c i j).0 h k (omega arith) ∙ same j k m a,
+        λ h. (same_row_decides n w c i j).1 (λ k a.
             ⊎_elim (λ (x : k < v). same i k l x ∙ h k x ∙ sym (same j k m x)) (λ (x : v ≤ k). rest i k l x a ∙ sym (rest j k m x a)) (cases_lt k v)),
       )
 
@@ -42,20 +42,20 @@ module _ (n v w : ℕ) (narrow : v ≤ w) (b c : Rows) (same : (i k : ℕ) → i
       there q =
           ⊎_elim (λ (x : q.0 < v). (q.0, x, sym (same i q.0 l x) ∙ q.2)) (λ (x : v ≤ q.0). absurd (both_ways _ (rest i q.0 l x q.1) q.2)) (cases_lt q.0 v)
 
-  least-same : (i : ℕ) → i < n → least v b i ≡ least w c i
+  least_same : (i : ℕ) → i < n → least v b i ≡ least w c i
   unfolding least
-  least-same i l = ap₂ (λ x y. x && not y) (some_bits i l) (some_same (λ j. same_row v b j i) (λ j. same_row w c j i) i (λ j a. same_rows j i (omega arith) l))
+  least_same i l = ap₂ (λ x y. x && not y) (some_bits i l) (some_same (λ j. same_row v b j i) (λ j. same_row w c j i) i (λ j a. same_rows j i (omega arith) l))
 
-  leasts-same : leasts n v b ≡ leasts n w c
+  leasts_same : leasts n v b ≡ leasts n w c
   unfolding leasts
-  leasts-same = those_same (least v b) (least w c) n least-same
+  leasts_same = those_same (least v b) (least w c) n least_same
 
   class_same : (i : ℕ) → i < n → class n v b i ≡ class n w c i
   unfolding class leasts
   class_same i l =
       place_same (λ j. same_row v b j i) (λ j. same_row w c j i) (leasts n v b)
       (All-weaker (λ x. (x < n) × (least v b x ≡ true)) (λ x. same_row v b x i ≡ same_row w c x i) (λ x q. same_rows x i q.0 l) (leasts n v b) (those_pass (least v b) n))
-      ∙ ap (place (λ j. same_row w c j i)) leasts-same
+      ∙ ap (place (λ j. same_row w c j i)) leasts_same
 
 -- rows in the words have the classes of the bits that they say
 module _ {bits : Rows} {n w rows : ℕ} {ws : List ℕ} (says : SaysRows bits n w rows ws) where
@@ -68,7 +68,7 @@ module _ {bits : Rows} {n w rows : ℕ} {ws : List ℕ} (says : SaysRows bits n 
   empty i k l b h = says.bits_are i k l h ∙ says.none i k l b h
 
   pub leasts_are : leasts n w bits ≡ leasts n 256 (row_has rows ws)
-  leasts_are = leasts-same n w 256 says.narrow bits (row_has rows ws) agree empty
+  leasts_are = leasts_same n w 256 says.narrow bits (row_has rows ws) agree empty
 
   pub classes_are : classes n w bits ≡ classes n 256 (row_has rows ws)
   unfolding classes

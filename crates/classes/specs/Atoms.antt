@@ -1,7 +1,7 @@
 -- The entries of a table's modules, and its atoms, in the words of a memory.
 use Rattle.std.specs.Prelude.{◌≡◌, ℕ, ◌+◌, ◌*◌, ◌<◌, ◌≤◌, min, List, Ok, Err, Result, slice_index}
 use Rattle.tables.specs.View.{View, module_count, entry_count}
-use Rattle.rows.specs.Bits.{has as has-bit}
+use Rattle.rows.specs.Bits.{has as has_bit}
 use Rattle.definitions.specs.Classes.{leasts}
 use Rattle.definitions.specs.Bits.{has, atoms, atom, whole}
 use Rattle.classes.specs.Numbering.{stored}
@@ -18,7 +18,7 @@ pub record AtomRoom (rows n numbers firsts wholes len : ℕ) : Type 0 where
 pub record SaysBits (t : View) (rows n : ℕ) (ws : List ℕ) : Type 0 where
   pub modules : n ≡ module_count t
   pub entries : entry_count t ≤ 256
-  pub bits : (m e : ℕ) → m < n → e < 256 → has-bit ws (rows + 4 * m) e ≡ has t m e
+  pub bits : (m e : ℕ) → m < n → e < 256 → has_bit ws (rows + 4 * m) e ≡ has t m e
 
 -- the least module of atom a
 abbrev pub least_module : View → ℕ → ℕ
@@ -30,7 +30,7 @@ pub record Atoms (t : View) (rows n numbers firsts wholes count : ℕ) (vs : Lis
   pub at_most : count ≤ 256
   pub number : (m : ℕ) → m < n → slice_index vs (numbers + m) ≡ stored (atom t m)
   pub first : (a : ℕ) → a < count → slice_index vs (firsts + a) ≡ least_module t a
-  pub bits : (a e : ℕ) → a < count → e < 256 → has-bit vs (wholes + 4 * a) e ≡ whole t a e
+  pub bits : (a e : ℕ) → a < count → e < 256 → has_bit vs (wholes + 4 * a) e ≡ whole t a e
 
 -- there are too many atoms, and m is the least module of atom 256
 pub record PastLimit (t : View) (m : ℕ) : Type 0 where

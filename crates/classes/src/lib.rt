@@ -1,4 +1,6 @@
 // Rows of equal bits form a class. The classes are numbered by their least rows.
+#![tactic(auto)]
+
 ghost use Rattle.std.specs.Prelude.{◌+◌, ◌*◌, ◌<◌, ◌≤◌, length};
 ghost use Rattle.rows.specs.Bits.{Next};
 ghost use Rattle.definitions.specs.Classes.{Rows};

@@ -1,5 +1,5 @@
 -- What the program writes for a text.
-use Rattle.std.specs.Prelude.{◌≡◌, ℕ, Bool, true, false, cond, List, [], ◌∷◌, length, Some, None, Ok, Err, vec_items, Option, Result, nat_lt}
+use Rattle.std.specs.Prelude.{◌≡◌, ℕ, Bool, true, false, cond, List, [], ◌∷◌, length, Some, None, Ok, Err, vec_items, Result, nat_lt}
 use Rattle.std.specs.Option.{option_map}
 use Rattle.tables.specs.Causes.{number_of}
 use Rattle.tables.specs.Value.{Table}

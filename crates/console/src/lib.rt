@@ -1,4 +1,6 @@
 // What the program answers to the bytes of a text.
+#![tactic(auto)]
+
 ghost use Rattle.std.specs.Prelude.{◌≡◌, IfOk};
 ghost use Rattle.console.specs.Outcome.{header_line, fault_line, too_long, outcome, Answered, Delivered};
 
@@ -34,7 +36,7 @@ fn widened(n: Option<u32>) -> Option<usize>
 
 // The header of a table, as its questions answer it.
 fn header_line<'t, T: LinkTable<'t>>(heap: Global, table: &mut T) -> Result<Vec<u8>, AllocError>
-    ensures { IfOk result (λ v. v.items ≡ header_line (means table.old).table) }
+    ensures { IfOk result (λ v. v.items ≡ header_line (T.means table.old).table) }
 {
     let modules = table.module_count();
     let entries = table.entry_count();

@@ -5,7 +5,7 @@ use Rattle.definitions.specs.Graph.{Cycle, cyclic}
 use Rattle.definitions.proofs.Graph.{cyclic_decides}
 use Rattle.reach.specs.Shape.{Edge}
 use Rattle.graphs.specs.Tests.{row_shape}
-use Rattle.graphs.specs.Spreads.{Cycle as Row-cycle}
+use Rattle.graphs.specs.Spreads.{Cycle as RowCycle}
 use Rattle.graphs.proofs.Edges.{row_edge, edge_row}
 use Rattle.covering.specs.Edges.{SaysEdges}
 use Rattle.covering.proofs.Ways.{path_of_way, way_of_path}
@@ -17,15 +17,15 @@ module _ (g : ℕ → ℕ → Bool) (at n : ℕ) (few : n ≤ 256) (ws : List �
   passes_edge : (v w : ℕ) → v < n → w < n → g v w ≡ true → Edge (row_shape at n) ws v w
   passes_edge v w l m h = edge_row at n few ws v w (l, m, says.rows v w l m ∙ h)
 
-  pub cycle_said : Row-cycle (Edge (row_shape at n) ws) → Cycle g
+  pub cycle_said : RowCycle (Edge (row_shape at n) ws) → Cycle g
   cycle_said c = (c.0, c.1.0, edge_passes c.0 c.1.0 c.1.1, path_of_way edge_passes c.1.2)
 
-  pub said_cycle : Cycle g → Row-cycle (Edge (row_shape at n) ws)
+  pub said_cycle : Cycle g → RowCycle (Edge (row_shape at n) ws)
   said_cycle c =
       let l = says.within c.0 c.1 c.2 in
       (c.0, (c.1, passes_edge c.0 c.1 l.0 l.1 c.2, way_of_path n (λ v w h. (says.within v w h).1) passes_edge l.1 c.3))
 
-  pub answers_cyclic : (r : Bool) → Decides r (Row-cycle (Edge (row_shape at n) ws)) → r ≡ cyclic n g
+  pub answers_cyclic : (r : Bool) → Decides r (RowCycle (Edge (row_shape at n) ws)) → r ≡ cyclic n g
   answers_cyclic r d =
       same_from_decides r (cyclic n g) (Decides-like r cycle_said said_cycle d)
       (cyclic_decides n g (λ v w h. (says.within v w h).1) (λ v w h. (says.within v w h).0))

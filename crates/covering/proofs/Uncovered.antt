@@ -8,7 +8,7 @@ use Rattle.definitions.specs.Graph.{Path, Within, reaches}
 use Rattle.definitions.specs.Cover.{imports, loads, open_step, covered}
 use Rattle.definitions.proofs.Below.{some_below_decides}
 use Rattle.definitions.proofs.Graph.{reaches_decides}
-use Rattle.definitions.proofs.Cover.{imports-below}
+use Rattle.definitions.proofs.Cover.{imports_below}
 use Rattle.reach.specs.Paths.{Way, here, step}
 use Rattle.graphs.specs.Tests.{UnlessEdge}
 use Rattle.graphs.specs.Cover.{Led}
@@ -32,7 +32,7 @@ module _ (at n barred starts : ℕ) (ws : List ℕ) (mark : ℕ → Bool) (led :
 module _ (t : View) (a : ℕ) where
   pub open_within : Within (entry_count t) (open_step t a)
   unfolding open_step
-  open_within i j h = imports-below t i j (and_parts _ _ h).0
+  open_within i j h = imports_below t i j (and_parts _ _ h).0
 
   -- an entry that is not dynamic reaches e past entries that do not load the atom
   abbrev pub Opened : ℕ → Type 0

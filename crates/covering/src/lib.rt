@@ -1,5 +1,7 @@
 // Where walks over rows of bits answer what the definitions ask: which entries an atom is not covered for, and whether a
 // graph has a cycle.
+#![tactic(auto)]
+
 ghost use Rattle.std.specs.Prelude.{◌≡◌, ℕ, ◌<◌, ◌≤◌, Bool, false, not, length};
 ghost use Rattle.tables.specs.View.{View};
 ghost use Rattle.definitions.specs.Cover.{covered};

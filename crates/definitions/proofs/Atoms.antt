@@ -1,24 +1,23 @@
 -- The modules of one atom have the same bits, and those are the atom's.
-use Rattle.std.proofs.Common.{◌≡◌, ℕ, ◌<◌, ◌≤◌, Bool, true, false, ◌&&◌, ◌⊎◌, Some, None, Decides, sym, refl, ap, ◌∙◌, inl, inr, ⊎_elim, arith}
-use Rattle.std.proofs.lemmas.Bool.{and_parts, and_from, cases_Bool, cases_lt, both_ways}
+use Rattle.std.proofs.Common.{◌≡◌, ℕ, ◌<◌, ◌≤◌, true, false, ◌&&◌, Some, Decides, sym, ◌∙◌, ⊎_elim, arith}
+use Rattle.std.proofs.lemmas.Bool.{cases_Bool, cases_lt}
 use Rattle.std.proofs.lemmas.Bool.Decides.{same_from_decides, Decides-and}
-use Rattle.tables.specs.Below.{some_below, is}
-use Rattle.definitions.specs.Classes.{class}
+use Rattle.tables.specs.Below.{is}
 use Rattle.tables.specs.View.{View, module_count, entry_count}
 use Rattle.definitions.specs.Bits.{has, atom, atoms, whole}
 use Rattle.definitions.proofs.Below.{some_below_decides}
-use Rattle.definitions.proofs.Bits.{has-below}
+use Rattle.definitions.proofs.Bits.{has_below}
 use Rattle.definitions.proofs.Classes.{is_decides, class_in, class_equal, class_like, class_some}
 
 module _ (t : View) where
-  pub atom-below : (m a : ℕ) → atom t m ≡ Some a → (m < module_count t) × (a < atoms t)
+  pub atom_below : (m a : ℕ) → atom t m ≡ Some a → (m < module_count t) × (a < atoms t)
   unfolding atoms atom
-  atom-below m a h = let q = class_in (module_count t) (entry_count t) (has t) m a h in ((has-below t m q.bit q.has-bit).0, q.within)
+  atom_below m a h = let q = class_in (module_count t) (entry_count t) (has t) m a h in ((has_below t m q.bit q.has_bit).0, q.within)
 
   -- a module of an atom has an entry
-  pub atom-bit : (m a : ℕ) → atom t m ≡ Some a → (e : ℕ) × (e < entry_count t) × (has t m e ≡ true)
+  pub atom_bit : (m a : ℕ) → atom t m ≡ Some a → (e : ℕ) × (e < entry_count t) × (has t m e ≡ true)
   unfolding atom
-  atom-bit m a h = let q = class_in (module_count t) (entry_count t) (has t) m a h in (q.bit, (has-below t m q.bit q.has-bit).1, q.has-bit)
+  atom_bit m a h = let q = class_in (module_count t) (entry_count t) (has t) m a h in (q.bit, (has_below t m q.bit q.has_bit).1, q.has_bit)
 
   -- modules of one atom have the same entries
   pub atom_equal : (m k a : ℕ) → atom t m ≡ Some a → atom t k ≡ Some a → (e : ℕ) → has t m e ≡ has t k e
@@ -28,7 +27,7 @@ module _ (t : View) where
       (λ l. none m l ∙ sym (none k l)) (cases_lt e (entry_count t))
     where
       none : (m : ℕ) → entry_count t ≤ e → has t m e ≡ false
-      none m l = ⊎_elim (λ h. let b = (has-below t m e h).1 in absurd (omega arith)) (λ h. h) (cases_Bool (has t m e))
+      none m l = ⊎_elim (λ h. let b = (has_below t m e h).1 in absurd (omega arith)) (λ h. h) (cases_Bool (has t m e))
 
   -- modules with the same entries are in one atom
   pub atom_like : (m k : ℕ) → ((e : ℕ) → e < entry_count t → has t m e ≡ has t k e) → atom t m ≡ atom t k
@@ -39,7 +38,7 @@ module _ (t : View) where
   pub atom_some : (m e : ℕ) → has t m e ≡ true → (a : ℕ) × (atom t m ≡ Some a)
   unfolding atom
   atom_some m e h =
-      let b = has-below t m e h in
+      let b = has_below t m e h in
       let c = class_some (module_count t) (entry_count t) (has t) m e b.0 b.1 h in
       c
 
@@ -53,4 +52,4 @@ module _ (t : View) where
   pub whole_has : (m a e : ℕ) → atom t m ≡ Some a → whole t a e ≡ has t m e
   whole_has m a e h =
       same_from_decides (whole t a e) (has t m e) (whole_decides a e)
-      (λ x. (m, (atom-below m a h).0, (h, x)), λ q. atom_equal m q.0 a h q.2.0 e ∙ q.2.1)
+      (λ x. (m, (atom_below m a h).0, (h, x)), λ q. atom_equal m q.0 a h q.2.0 e ∙ q.2.1)

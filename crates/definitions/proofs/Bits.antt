@@ -1,30 +1,28 @@
 -- `has` is true exactly where a path of load dependencies says so; the modules of one atom have the same bits.
-use Rattle.std.proofs.Common.{◌≡◌, ℕ, ◌<◌, ◌≤◌, Bool, true, false, ◌&&◌, ◌||◌, eqb, ltb, ◌⊎◌, length, get_or, Decides, sym, refl, ap, ◌∙◌, subst, inl, inr, ⊎_elim, arith}
-use lib.ListN.{get_or-eq_default}
-use Rattle.std.proofs.lemmas.Bool.{and_parts, and_from, ltb-true, lt-ltb, cases_lt, both_ways}
-use Rattle.tables.specs.Below.{listed}
-use Rattle.definitions.specs.Graph.{Path, stay, via, Within, reaches}
-use Rattle.tables.specs.View.{View, module_count, entry_count, module_at, entry_at}
+use Rattle.std.proofs.Common.{◌≡◌, ℕ, ◌<◌, true, Decides}
+use Rattle.std.proofs.lemmas.Bool.{and_parts, and_from, ltb-true, lt-ltb}
+use Rattle.definitions.specs.Graph.{Path, stay, via, Within}
+use Rattle.tables.specs.View.{View, module_count, entry_count}
 use Rattle.tables.specs.Flags.{normal, dynamic, root}
 use Rattle.definitions.specs.Bits.{usable, Leads, here, on, Has, load_step, has}
 use Rattle.definitions.proofs.Graph.{reaches_decides}
 
-pub normal-below : (t : View) (m : ℕ) → normal t m ≡ true → m < module_count t
+pub normal_below : (t : View) (m : ℕ) → normal t m ≡ true → m < module_count t
 unfolding normal
-normal-below t m h = ltb-true m (module_count t) (and_parts _ _ h).0
+normal_below t m h = ltb-true m (module_count t) (and_parts _ _ h).0
 
-pub dynamic-below : (t : View) (e : ℕ) → dynamic t e ≡ true → e < entry_count t
+pub dynamic_below : (t : View) (e : ℕ) → dynamic t e ≡ true → e < entry_count t
 unfolding dynamic
-dynamic-below t e h = ltb-true e (entry_count t) (and_parts _ _ h).0
+dynamic_below t e h = ltb-true e (entry_count t) (and_parts _ _ h).0
 
-pub usable-below : (t : View) (m : ℕ) → usable t m ≡ true → m < module_count t
+pub usable_below : (t : View) (m : ℕ) → usable t m ≡ true → m < module_count t
 unfolding usable
-usable-below t m h = normal-below t m (and_parts _ _ h).0
+usable_below t m h = normal_below t m (and_parts _ _ h).0
 
 module _ (t : View) where
   inside : Within (module_count t) (load_step t)
   unfolding load_step
-  inside a b h = usable-below t b (and_parts _ _ (and_parts _ _ h).1).0
+  inside a b h = usable_below t b (and_parts _ _ (and_parts _ _ h).1).0
 
   leads_of : {a b : ℕ} → usable t a ≡ true → Path (load_step t) a b → Leads t a b
   unfolding load_step
@@ -52,8 +50,8 @@ module _ (t : View) where
           and_from _ _ (lt-ltb e (entry_count t) h.0) (and_from _ _ q.0 ((reaches_decides (module_count t) (load_step t) inside (root t e) m).1 q.1))
 
   leads_below : {a b : ℕ} → Leads t a b → b < module_count t
-  leads_below (here u) = usable-below t _ u
+  leads_below (here u) = usable_below t _ u
   leads_below (on u l r) = leads_below r
 
-  pub has-below : (m e : ℕ) → has t m e ≡ true → (m < module_count t) × (e < entry_count t)
-  has-below m e h = let p = (has_decides m e).0 h in (leads_below p.1, p.0)
+  pub has_below : (m e : ℕ) → has t m e ≡ true → (m < module_count t) × (e < entry_count t)
+  has_below m e h = let p = (has_decides m e).0 h in (leads_below p.1, p.0)

@@ -1,10 +1,10 @@
 -- Two rows are in one class exactly where their bits are equal and not empty.
-use Rattle.std.proofs.Common.{◌≡◌, ℕ, zero, suc, ◌+◌, ◌<◌, ◌≤◌, Bool, true, false, cond, not, ◌&&◌, ◌||◌, eqb, ◌⊎◌, List, [], ◌∷◌, ◌++◌, length, get_or, Some, None, Decides, Option, sym, refl, ap, ◌∙◌, subst, ap₂, inl, inr, ⊎_elim, arith}
+use Rattle.std.proofs.Common.{◌≡◌, ℕ, zero, suc, ◌+◌, ◌<◌, ◌≤◌, Bool, true, false, cond, ◌&&◌, List, [], ◌∷◌, length, get_or, Some, None, Decides, Option, sym, refl, ap, ◌∙◌, subst, ap₂, ⊎_elim, arith}
 use mathlib.Core.Path.{fun_ext}
 use mathlib.Core.Bool.{beq}
 use Rattle.std.specs.List.{ContainsAt as Has, AllByRecursion as All}
 use Rattle.std.proofs.ByRecursion.{All-append, All-weaker, All-get_or, has_append_left, has_append_right}
-use Rattle.std.proofs.lemmas.Bool.{cases_eq, and_parts, and_from, cases_Bool, both_ways, eqb-true, eq-eqb, not-true, not_from_false}
+use Rattle.std.proofs.lemmas.Bool.{cases_eq, and_parts, and_from, cases_Bool, both_ways, eqb-true, eq-eqb, not_from_false}
 use Rattle.tables.specs.Below.{some_below, every_below, those_below, place, next, is}
 use Rattle.definitions.specs.Classes.{Rows, same_row, least, leasts, classes, class}
 use Rattle.definitions.proofs.Below.{some_below_decides, every_below_decides}
@@ -82,9 +82,9 @@ those_have p (suc n) x l h = ⊎_elim last (λ apart. below (those_have p n x (o
     below q = has_append_left (those_below n p) (cond (p n) (n ∷ []) []) x q
 
 module _ (n w : ℕ) (bits : Rows) where
-  pub same-row_decides : (i j : ℕ) → Decides (same_row w bits i j) ((k : ℕ) → k < w → bits i k ≡ bits j k)
+  pub same_row_decides : (i j : ℕ) → Decides (same_row w bits i j) ((k : ℕ) → k < w → bits i k ≡ bits j k)
   unfolding same_row
-  same-row_decides i j =
+  same_row_decides i j =
       every_below_decides (λ k. beq (bits i k) (bits j k)) (λ k. bits i k ≡ bits j k) (λ k. (beq_true _ _, beq_same _ _)) w
 
   -- the least row of class c
@@ -93,10 +93,10 @@ module _ (n w : ℕ) (bits : Rows) where
 
   pub record InClass (i c : ℕ) : Type 0 where
     pub within : c < classes n w bits
-    pub least-below : leader c < n
+    pub least_below : leader c < n
     pub bit : ℕ
     pub bit_below : bit < w
-    pub has-bit : bits i bit ≡ true
+    pub has_bit : bits i bit ≡ true
     pub equal : (k : ℕ) → k < w → bits (leader c) k ≡ bits i k
 
   pub class_in : (i c : ℕ) → class n w bits i ≡ Some c → InClass i c
@@ -108,14 +108,14 @@ module _ (n w : ℕ) (bits : Rows) where
       found : c < length (leasts n w bits) → same_row w bits (get_or (leasts n w bits) c 0) i ≡ true → InClass i c
       found l s =
           let q = All-get_or (λ x. (x < n) × (least w bits x ≡ true)) (leasts n w bits) c 0 l (those_pass (least w bits) n) in
-          let eq = (same-row_decides (leader c) i).0 s in
+          let eq = (same_row_decides (leader c) i).0 s in
           let b = (some_below_decides (bits (leader c)) (λ k. bits (leader c) k ≡ true) (λ k. (λ x. x, λ x. x)) w).0 (and_parts _ _ q.1).0 in
           record {
             within = l;
-            least-below = q.0;
+            least_below = q.0;
             bit = b.0;
             bit_below = b.1;
-            has-bit = sym (eq b.0 b.1) ∙ b.2;
+            has_bit = sym (eq b.0 b.1) ∙ b.2;
             equal = eq;
           }
 
@@ -123,9 +123,9 @@ module _ (n w : ℕ) (bits : Rows) where
   pub class_equal : (i j c : ℕ) → class n w bits i ≡ Some c → class n w bits j ≡ Some c → (k : ℕ) → k < w → bits i k ≡ bits j k
   class_equal i j c p q k l = sym ((class_in i c p).equal k l) ∙ (class_in j c q).equal k l
 
-  same-row_like : (l i j : ℕ) → ((k : ℕ) → k < w → bits i k ≡ bits j k) → same_row w bits l i ≡ same_row w bits l j
+  same_row_like : (l i j : ℕ) → ((k : ℕ) → k < w → bits i k ≡ bits j k) → same_row w bits l i ≡ same_row w bits l j
   unfolding same_row
-  same-row_like l i j h = go w (λ k b. h k b)
+  same_row_like l i j h = go w (λ k b. h k b)
     where
       go : (v : ℕ) → ((k : ℕ) → k < v → bits i k ≡ bits j k) → every_below v (λ k. beq (bits l k) (bits i k)) ≡ every_below v (λ k. beq (bits l k) (bits j k))
       go zero h = refl
@@ -134,7 +134,7 @@ module _ (n w : ℕ) (bits : Rows) where
   -- rows with the same bits have one class
   pub class_like : (i j : ℕ) → ((k : ℕ) → k < w → bits i k ≡ bits j k) → class n w bits i ≡ class n w bits j
   unfolding class
-  class_like i j h = ap (λ (p : ℕ → Bool). place p (leasts n w bits)) (fun_ext (λ l. same-row_like l i j h))
+  class_like i j h = ap (λ (p : ℕ → Bool). place p (leasts n w bits)) (fun_ext (λ l. same_row_like l i j h))
 
   Equal : ℕ → ℕ → Type 0
   Equal i j = (k : ℕ) → k < w → bits i k ≡ bits j k
@@ -143,7 +143,7 @@ module _ (n w : ℕ) (bits : Rows) where
   least_like : (v i k : ℕ) → i < v → k < w → bits i k ≡ true → (l : ℕ) × (l ≤ i) × (least w bits l ≡ true) × Equal l i
   unfolding Equal least
   least_like zero i k h b x = absurd (omega arith)
-  least_like (suc v) i k h b x = ⊎_elim (λ s. earlier ((some_below_decides (λ j. same_row w bits j i) (λ j. Equal j i) (λ j. same-row_decides j i) i).0 s) (least_like v)) new (cases_Bool (some_below i (λ j. same_row w bits j i)))
+  least_like (suc v) i k h b x = ⊎_elim (λ s. earlier ((some_below_decides (λ j. same_row w bits j i) (λ j. Equal j i) (λ j. same_row_decides j i) i).0 s) (least_like v)) new (cases_Bool (some_below i (λ j. same_row w bits j i)))
     where
       earlier : ((j : ℕ) × (j < i) × Equal j i) → ((j k : ℕ) → j < v → k < w → bits j k ≡ true → (l : ℕ) × (l ≤ j) × (least w bits l ≡ true) × Equal l j) → (l : ℕ) × (l ≤ i) × (least w bits l ≡ true) × Equal l i
       earlier j ih = let r = ih j.0 k (omega arith) b (j.2 k b ∙ x) in (r.0, omega arith, r.2, λ k b. r.3 k b ∙ j.2 k b)
@@ -162,4 +162,4 @@ module _ (n w : ℕ) (bits : Rows) where
           let q = least_like (suc i) i k (omega arith) b x in
           let m = those_have (least w bits) n q.0 (omega arith) q.2 in
           let f = place_none (λ j. same_row w bits j i) (leasts n w bits) 0 m.0 e m.1 in
-          absurd (both_ways _ f (ap (λ j. same_row w bits j i) (m.2 0) ∙ (same-row_decides q.0 i).1 q.3))
+          absurd (both_ways _ f (ap (λ j. same_row w bits j i) (m.2 0) ∙ (same_row_decides q.0 i).1 q.3))

@@ -1,26 +1,25 @@
 -- `covered` is true exactly where every import chain from an entry that is not dynamic meets an entry that loads the atom.
 --
-use Rattle.std.proofs.Common.{◌≡◌, ℕ, ◌<◌, Bool, true, false, not, ◌&&◌, ◌||◌, ◌⊎◌, List, [], ◌∷◌, Decides, sym, refl, ap, ◌∙◌, inl, inr, ⊎_elim}
-use Rattle.std.proofs.lemmas.Bool.{and_parts, and_from, or_parts, or_from, cases_Bool, both_ways, not-true, not-false, not_from_false, not_from_true}
+use Rattle.std.proofs.Common.{◌≡◌, ℕ, ◌<◌, true, false, not, ◌&&◌, List, [], ◌∷◌, Decides, refl, ⊎_elim}
+use Rattle.std.proofs.lemmas.Bool.{and_parts, and_from, or_parts, or_from, cases_Bool, both_ways, not-true, not-false, not_from_false}
 use Rattle.tables.specs.Below.{some_below, some_of}
 use Rattle.definitions.specs.Graph.{Path, stay, via, Within, reaches}
-use Rattle.tables.specs.View.{View, entry_count, entry_at}
+use Rattle.tables.specs.View.{View, entry_count}
 use Rattle.tables.specs.Flags.{dynamic}
-use Rattle.definitions.specs.Bits.{has, atoms}
-use Rattle.definitions.specs.Cover.{loads, counting_site, imports, Chain, last, then, Covered, open_step, covered}
+use Rattle.definitions.specs.Cover.{loads, imports, Chain, last, then, Covered, open_step, covered}
 use Rattle.definitions.proofs.Below.{some_below_decides}
-use Rattle.definitions.proofs.Bits.{dynamic-below}
+use Rattle.definitions.proofs.Bits.{dynamic_below}
 use Rattle.definitions.proofs.Graph.{reaches_decides}
 
 module _ (t : View) where
-  pub imports-below : (i e : ℕ) → imports t i e ≡ true → e < entry_count t
+  pub imports_below : (i e : ℕ) → imports t i e ≡ true → e < entry_count t
   unfolding imports
-  imports-below i e h = dynamic-below t e (and_parts _ _ h).0
+  imports_below i e h = dynamic_below t e (and_parts _ _ h).0
 
   module _ (a : ℕ) where
     inside : Within (entry_count t) (open_step t a)
     unfolding open_step
-    inside i j h = imports-below i j (and_parts _ _ h).0
+    inside i j h = imports_below i j (and_parts _ _ h).0
 
     open_path : {i e : ℕ} {before : List ℕ} → Chain t i before e → some_of (λ k. loads t k a) before ≡ false → Path (open_step t a) i e
     unfolding open_step

@@ -1,8 +1,8 @@
 -- `reaches` and `cyclic` say what they should: they compute to true exactly where a path, or a cycle, is.
 -- No counting of places: `through g k` is transitive at every inner place below k, which is an induction on k.
 --
-use Rattle.std.proofs.Common.{◌≡◌, ℕ, zero, suc, ◌<◌, ◌≤◌, Bool, true, false, ◌&&◌, ◌||◌, eqb, ◌⊎◌, Decides, sym, refl, ap, ◌∙◌, subst, ap₂, inl, inr, ⊎_elim, arith}
-use Rattle.std.proofs.lemmas.Bool.{or_cases, or_left, or_right, and_parts, and_from, eqb-true, eq-eqb, cases_eq, cases_Bool}
+use Rattle.std.proofs.Common.{◌≡◌, ℕ, zero, suc, ◌<◌, Bool, true, ◌&&◌, eqb, ◌⊎◌, Decides, refl, subst, inl, inr, ⊎_elim, arith}
+use Rattle.std.proofs.lemmas.Bool.{or_cases, or_left, or_right, and_parts, and_from, eqb-true, eq-eqb, cases_eq}
 use Rattle.tables.specs.Below.{some_below}
 use Rattle.definitions.specs.Graph.{Path, stay, via, Cycle, Within, through, reaches, cyclic}
 use Rattle.definitions.proofs.Below.{some_below_decides}

@@ -1,19 +1,17 @@
 -- The decisions come to what specs/Laws says.
-use Rattle.std.proofs.Common.{◌≡◌, ℕ, zero, suc, ◌<◌, ◌≤◌, Bool, true, false, cond, not, ◌&&◌, ◌||◌, eqb, ◌⊎◌, ◌↔◌, List, [], ◌∷◌, ◌++◌, get_or, Some, None, Decides, Option, sym, refl, ap, ◌∙◌, subst, inl, inr, ⊎_elim, append-nil, arith}
+use Rattle.std.proofs.Common.{◌≡◌, ℕ, zero, suc, ◌<◌, ◌≤◌, Bool, true, false, cond, not, ◌&&◌, ◌||◌, eqb, ◌⊎◌, ◌↔◌, List, [], ◌∷◌, ◌++◌, get_or, Some, None, Decides, Option, sym, refl, ap, ◌∙◌, subst, inl, inr, ⊎_elim, arith}
 use Rattle.std.specs.List.{ContainsAt as Has, AllByRecursion as All}
-use Rattle.std.proofs.lemmas.Bool.{and_parts, and_from, or_cases, or_parts, or_left, or_right, cases_Bool, cases_eq, cases_lt, both_ways, eqb-true, eqb-false, eq-eqb, not-true, not-false, not_from_false, not_from_true}
+use Rattle.std.proofs.lemmas.Bool.{and_parts, or_cases, or_parts, cases_Bool, cases_eq, both_ways, eq-eqb, not-false}
 use Rattle.std.proofs.lemmas.Bool.Decides.{Decides-eqb, Decides-or, Decides-not, Decides-and}
 use Rattle.definitions.specs.declared.Verdict.{Verdict}
-use Rattle.definitions.specs.declared.Verdict.TheVariants.{Undecided, NothingLost, NothingRemains, Objected, Refused, Cyclic, Accepted, AcceptedWithNamespace}
+use Rattle.definitions.specs.declared.Verdict.TheVariants.{Undecided, NothingLost, NothingRemains, Objected, Cyclic}
 use Rattle.definitions.specs.declared.ReducedEntriesAction.{ReducedEntriesAction}
 use Rattle.definitions.specs.declared.ReducedEntriesAction.TheVariants.{Avoid, Apply, ApplyWithNamespaceExtraction}
-use Rattle.tables.specs.Below.{some_below, every_below, those_below, listed, is}
-use Rattle.definitions.specs.Graph.{Path, Cycle, Within, cyclic}
-use Rattle.definitions.specs.Classes.{class, classes}
-use Rattle.tables.specs.View.{View, module_count, entry_count}
-use Rattle.tables.specs.Flags.{root}
-use Rattle.definitions.specs.Bits.{has, atom, atoms, members, whole, host}
-use Rattle.definitions.specs.Targets.{only, cycle_graph}
+use Rattle.tables.specs.Below.{some_below, those_below, listed, is}
+use Rattle.definitions.specs.Graph.{Cycle}
+use Rattle.tables.specs.View.{View, entry_count}
+use Rattle.definitions.specs.Bits.{has, atom, atoms, members, host}
+use Rattle.definitions.specs.Targets.{only}
 use Rattle.definitions.specs.Cover.{covered, Covered}
 use Rattle.definitions.specs.Rules.{trial, lost, rules}
 use Rattle.definitions.specs.Plan.{Veto, Verdicts, accepted, none_decided, on_trial, chunk, chunk_count, chunk_only, atom_edge, has_host, host_edge, chunk_graph, chunks_cyclic, the_only, unless_cyclic, by_rules, by_remaining, verdict, put, decide, decided, has_after}
@@ -21,48 +19,48 @@ use Rattle.definitions.specs.Laws.{MayFold}
 use Rattle.definitions.proofs.Below.{some_below_one, some_below_decides, every_below_decides}
 use Rattle.definitions.proofs.Graph.{cyclic_decides}
 use Rattle.definitions.proofs.Classes.{is_some, class_in, those_pass, those_have}
-use Rattle.definitions.proofs.Atoms.{whole_has, atom-below}
+use Rattle.definitions.proofs.Atoms.{whole_has}
 use Rattle.definitions.proofs.Cover.{covered_decides}
 
 -- Predicted chunks
 
 module _ (t : View) (bits : ℕ → ℕ → Bool) where
-  pub chunk-below : (a c : ℕ) → is (chunk t bits a) c ≡ true → c < chunk_count t bits
+  pub chunk_below : (a c : ℕ) → is (chunk t bits a) c ≡ true → c < chunk_count t bits
   unfolding chunk chunk_count
-  chunk-below a c h = (class_in (atoms t) (entry_count t) bits a c (is_some _ _ h)).within
+  chunk_below a c h = (class_in (atoms t) (entry_count t) bits a c (is_some _ _ h)).within
 
-  has_host-below : (o : Option ℕ) (d : ℕ) → has_host t bits d o ≡ true → d < chunk_count t bits
+  has_host_below : (o : Option ℕ) (d : ℕ) → has_host t bits d o ≡ true → d < chunk_count t bits
   unfolding has_host
-  has_host-below None d h = absurd (both_ways false refl h)
-  has_host-below (Some k) d h = chunk-below k d h
+  has_host_below None d h = absurd (both_ways false refl h)
+  has_host_below (Some k) d h = chunk_below k d h
 
   Both : ℕ → ℕ → Type 0
   Both c d = (c < chunk_count t bits) × (d < chunk_count t bits)
 
-  atom_edge-below : (c d : ℕ) → atom_edge t bits c d ≡ true → Both c d
+  atom_edge_below : (c d : ℕ) → atom_edge t bits c d ≡ true → Both c d
   unfolding Both atom_edge
-  atom_edge-below c d h =
+  atom_edge_below c d h =
       let q = some_below_one (atoms t) _ h in let p = and_parts _ _ q.2 in
       let r = some_below_one (atoms t) _ p.1 in let s = and_parts _ _ r.2 in
-      (chunk-below q.0 c p.0, chunk-below r.0 d s.0)
+      (chunk_below q.0 c p.0, chunk_below r.0 d s.0)
 
-  host_edge-below : (c d : ℕ) → host_edge t bits c d ≡ true → Both c d
+  host_edge_below : (c d : ℕ) → host_edge t bits c d ≡ true → Both c d
   unfolding Both host_edge chunk_only
-  host_edge-below c d h =
+  host_edge_below c d h =
       let q = some_below_one (entry_count t) _ h in let p = and_parts _ _ q.2 in
       let r = some_below_one (atoms t) _ p.0 in let s = and_parts _ _ r.2 in
-      (chunk-below r.0 c s.0, has_host-below (host t q.0) d p.1)
+      (chunk_below r.0 c s.0, has_host_below (host t q.0) d p.1)
 
-  pub chunk_graph-below : (c d : ℕ) → chunk_graph t bits c d ≡ true → (c < chunk_count t bits) × (d < chunk_count t bits)
+  pub chunk_graph_below : (c d : ℕ) → chunk_graph t bits c d ≡ true → (c < chunk_count t bits) × (d < chunk_count t bits)
   unfolding chunk_graph Both
-  chunk_graph-below c d h =
+  chunk_graph_below c d h =
       let p = and_parts _ _ h in let q = or_cases _ _ p.1 in
-      ⊎_elim (atom_edge-below c d) (host_edge-below c d) q
+      ⊎_elim (atom_edge_below c d) (host_edge_below c d) q
 
   pub chunks_cyclic_decides : Decides (chunks_cyclic t bits) (Cycle (chunk_graph t bits))
   unfolding chunks_cyclic
   chunks_cyclic_decides =
-      cyclic_decides (chunk_count t bits) (chunk_graph t bits) (λ a b h. (chunk_graph-below a b h).1) (λ a b h. (chunk_graph-below a b h).0)
+      cyclic_decides (chunk_count t bits) (chunk_graph t bits) (λ a b h. (chunk_graph_below a b h).1) (λ a b h. (chunk_graph_below a b h).0)
 
 -- The one entry that remains
 
@@ -182,9 +180,9 @@ module _ (t : View) (veto : Veto) (vs : Verdicts) (a : ℕ) where
   one_of : (n : ℕ) (p : ℕ → Bool) → Decides (some_below n p) ((e : ℕ) × (e < n) × (p e ≡ true))
   one_of n p = some_below_decides p (λ e. p e ≡ true) (λ e. (λ x. x, λ x. x)) n
 
-  pub accepted-exactly : (accepted (verdict t veto vs a) ≡ true) ↔ MayFold t veto vs a
+  pub accepted_exactly : (accepted (verdict t veto vs a) ≡ true) ↔ MayFold t veto vs a
   unfolding verdict Allowed cyclic_now
-  accepted-exactly = (to, of)
+  accepted_exactly = (to, of)
     where
       n : ℕ
       n = entry_count t
@@ -209,10 +207,10 @@ module _ (t : View) (veto : Veto) (vs : Verdicts) (a : ℕ) where
 -- Decisions over a list of atoms
 
 module _ (t : View) (veto : Veto) where
-  decide-append : (vs : Verdicts) (xs ys : List ℕ) → decide t veto vs (xs ++ ys) ≡ decide t veto (decide t veto vs xs) ys
+  decide_append : (vs : Verdicts) (xs ys : List ℕ) → decide t veto vs (xs ++ ys) ≡ decide t veto (decide t veto vs xs) ys
   unfolding decide
-  decide-append vs [] ys = refl
-  decide-append vs (x ∷ xs) ys = decide-append (put x (verdict t veto vs x) vs) xs ys
+  decide_append vs [] ys = refl
+  decide_append vs (x ∷ xs) ys = decide_append (put x (verdict t veto vs x) vs) xs ys
 
   decide_other : (vs : Verdicts) (xs : List ℕ) (a : ℕ) → listed a xs ≡ false → decide t veto vs xs a ≡ vs a
   unfolding decide put
@@ -223,17 +221,17 @@ module _ (t : View) (veto : Veto) where
 
   pub going_on : (xs ys : List ℕ) → decided t veto (xs ++ ys) ≡ decide t veto (decided t veto xs) ys
   unfolding decided
-  going_on xs ys = decide-append none_decided xs ys
+  going_on xs ys = decide_append none_decided xs ys
 
-  pub decided-others : (done : List ℕ) (a : ℕ) → listed a done ≡ false → decided t veto done a ≡ Undecided
+  pub decided_others : (done : List ℕ) (a : ℕ) → listed a done ≡ false → decided t veto done a ≡ Undecided
   unfolding decided
-  decided-others done a h = decide_other none_decided done a h
+  decided_others done a h = decide_other none_decided done a h
 
   pub decided_at : (before after : List ℕ) (a : ℕ) → listed a after ≡ false → decided t veto (before ++ a ∷ after) a ≡ verdict t veto (decided t veto before) a
   unfolding decided decide put
   decided_at before after a h =
       let vs = decide t veto none_decided before in
-      ap (λ (f : Verdicts). f a) (decide-append none_decided before (a ∷ after)) ∙ decide_other (put a (verdict t veto vs a) vs) after a h
+      ap (λ (f : Verdicts). f a) (decide_append none_decided before (a ∷ after)) ∙ decide_other (put a (verdict t veto vs a) vs) after a h
       ∙ ap (λ b. cond b (verdict t veto vs a) (vs a)) (eq-eqb a a refl)
 
 -- What a module has lost

@@ -1,6 +1,5 @@
 -- The verdict on an atom is what was prepared, and the test for cycles.
 use Rattle.std.proofs.Common.{◌≡◌, ℕ, Bool, true, false, cond, not, Some, None, Option, refl}
-use Rattle.definitions.specs.declared.Verdict.{Verdict}
 use Rattle.definitions.specs.declared.Verdict.TheVariants.{NothingLost, NothingRemains, Objected}
 use Rattle.definitions.specs.declared.ReducedEntriesAction.{ReducedEntriesAction}
 use Rattle.definitions.specs.declared.ReducedEntriesAction.TheVariants.{Avoid, Apply, ApplyWithNamespaceExtraction}

@@ -1,6 +1,6 @@
 -- Which module has which entry, and the atoms.
 use Rattle.std.specs.Prelude.{◌≡◌, ℕ, ◌<◌, Bool, true, ◌&&◌, List, Option, nat_lt}
-use Rattle.tables.specs.Below.{some_below, every_below, those_below, listed, is}
+use Rattle.tables.specs.Below.{some_below, those_below, is}
 use Rattle.definitions.specs.Graph.{reaches}
 use Rattle.definitions.specs.Classes.{class, classes}
 use Rattle.tables.specs.View.{View, module_count, entry_count, module_at}

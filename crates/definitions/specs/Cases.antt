@@ -1,12 +1,10 @@
 -- The small cases, as one fact about the definitions.
-use Rattle.std.specs.Prelude.{◌≡◌, ℕ, ◌<◌, Bool, true, false, List, [], ◌∷◌, ◌++◌, map, Some, None, Ok, Err, codes, Option}
+use Rattle.std.specs.Prelude.{◌≡◌, ℕ, ◌<◌, false, List, [], ◌∷◌, ◌++◌, map, Some, None, Ok, Err, codes}
 use Rattle.std.specs.List.{range_with_len}
-use Rattle.definitions.specs.declared.Verdict.{Verdict}
-use Rattle.definitions.specs.declared.Verdict.TheVariants.{Accepted, AcceptedWithNamespace}
+use Rattle.definitions.specs.declared.Verdict.TheVariants.{AcceptedWithNamespace}
 use Rattle.tables.specs.Below.{those_below}
 use Rattle.tables.specs.Value.{Table, Module, Entry, Export, Meaning}
 use Rattle.tables.specs.View.{View, view, module_count, entry_count}
-use Rattle.tables.specs.declared.parts.Site.{Site}
 use Rattle.tables.specs.declared.parts.Symbol.{Symbol}
 use Rattle.definitions.specs.Bits.{atoms}
 use Rattle.definitions.specs.Plan.{Veto, number, decided, first, has_after, need}
@@ -18,7 +16,7 @@ use Rattle.tables.specs.declared.thing.ModuleList.TheVariants.{Loads}
 use Rattle.tables.specs.declared.thing.Thing.{Thing}
 use Rattle.tables.specs.declared.thing.Thing.TheVariants as thing
 use Rattle.definitions.specs.Checks.{Checked, plain_fault}
-use Rattle.definitions.specs.Lines.{Line, P, A, M, B, N, lines}
+use Rattle.definitions.specs.Lines.{P, A, M, B, lines}
 
 -- a normal, included module that loads some modules and exports some symbols
 abbrev plain : List ℕ → List Export → Module

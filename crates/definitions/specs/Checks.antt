@@ -1,8 +1,8 @@
 -- What begin refuses, in its order: a plan that is begun already (8), counts over their maximum (3), too few words (2), numbers
 -- that name nothing (4), links in a circle (5), an export name twice (6), too many atoms (7). The first that applies is given.
 -- Within a cause the order is runtime, modules, entries, symbols, each by number, its fields and then its lists.
-use Rattle.std.specs.Prelude.{ℕ, zero, suc, ◌+◌, Bool, true, false, cond, not, List, [], ◌∷◌, length, Some, None, Ok, Err, Option, Result, nat_le, nat_lt, slice_index}
-use Rattle.tables.specs.Below.{some_of, some_below}
+use Rattle.std.specs.Prelude.{ℕ, suc, Bool, cond, not, List, [], ◌∷◌, length, Some, None, Ok, Err, Option, Result, nat_le, nat_lt, slice_index}
+use Rattle.tables.specs.Below.{some_of}
 use Rattle.tables.specs.Value.{Table, Module, Entry, Export, Meaning}
 use Rattle.tables.specs.View.{View, view}
 use Rattle.tables.specs.Links.{endless}
@@ -51,7 +51,7 @@ unless b f = cond b (Ok tt) (Err f)
 module _ {P : Type 0} (place : Thing → Field → Option P) where
   -- a count of at most `most`: the fault names the first thing too many
   abbrev pub few : ℕ → Thing → ℕ → Checked P
-  few most first-over n = unless (nat_le n most) (fault_at place (TooMany n) first-over field.Whole)
+  few most first_over n = unless (nat_le n most) (fault_at place (TooMany n) first_over field.Whole)
 
   abbrev pub few_in_module : ℕ → Module → Checked P
   few_in_module m x =

@@ -1,11 +1,11 @@
 -- What an entry loads, which entries import which, and the covered atoms.
-use Rattle.std.specs.Prelude.{◌≡◌, ℕ, ◌<◌, Bool, true, false, cond, not, ◌&&◌, List, [], ◌∷◌, Some, None, MatchBool, Option, ◌==◌}
+use Rattle.std.specs.Prelude.{◌≡◌, ℕ, ◌<◌, Bool, true, false, cond, not, ◌&&◌, List, [], ◌∷◌, Some, None, MatchBool, ◌==◌}
 use Rattle.tables.specs.Below.{some_below, some_of, is}
 use Rattle.definitions.specs.Graph.{Path, reaches}
 use Rattle.tables.specs.View.{View, entry_count, entry_at}
 use Rattle.tables.specs.Flags.{normal, root, dynamic}
 use Rattle.tables.specs.declared.parts.Site.{Site}
-use Rattle.definitions.specs.Bits.{has, atom, atoms, whole, host}
+use Rattle.definitions.specs.Bits.{has, atoms, whole, host}
 use Rattle.definitions.specs.Targets.{reach_graph}
 
 -- entry e statically loads atom a

@@ -3,32 +3,32 @@ use Rattle.std.specs.Prelude.{◌≡◌, ℕ, ◌<◌, Bool, true, false, ◌↔
 use Rattle.definitions.specs.declared.Verdict.TheVariants.{Undecided}
 use Rattle.definitions.specs.declared.ReducedEntriesAction.TheVariants.{Avoid}
 use Rattle.tables.specs.Below.{listed}
-use Rattle.definitions.specs.Graph.{Path, Cycle}
+use Rattle.definitions.specs.Graph.{Cycle}
 use Rattle.tables.specs.View.{View, entry_count}
 use Rattle.definitions.specs.Bits.{Has, has, atom, members}
 use Rattle.definitions.specs.Targets.{only}
-use Rattle.definitions.specs.Cover.{Loads, loads, Covered, covered}
+use Rattle.definitions.specs.Cover.{Loads, Covered}
 use Rattle.definitions.specs.Rules.{trial, lost, rules}
-use Rattle.definitions.specs.Plan.{Veto, Verdicts, accepted, verdict, decide, decided, on_trial, chunk_graph, chunks_cyclic, has_after}
+use Rattle.definitions.specs.Plan.{Veto, Verdicts, accepted, decide, on_trial, chunk_graph}
 
 -- tests that compute say what the words say
-pub record Tests-agree
-    (has-test : View → ℕ → ℕ → Bool)
-    (atom-of : View → ℕ → Option ℕ)
-    (loads-test covered-test : View → ℕ → ℕ → Bool)
-    (cyclic-test : View → (ℕ → ℕ → Bool) → Bool)
+pub record TestsAgree
+    (has_test : View → ℕ → ℕ → Bool)
+    (atom_of : View → ℕ → Option ℕ)
+    (loads_test covered_test : View → ℕ → ℕ → Bool)
+    (cyclic_test : View → (ℕ → ℕ → Bool) → Bool)
     : Type 0 where
   -- a module has an entry exactly where a path of load dependencies leads to it from the entry's module
-  pub entries : (t : View) (m e : ℕ) → (has-test t m e ≡ true) ↔ Has t m e
+  pub entries : (t : View) (m e : ℕ) → (has_test t m e ≡ true) ↔ Has t m e
   -- modules are of one atom exactly where their bits are equal and not empty
-  pub one_atom : (t : View) (m k e : ℕ) → has-test t m e ≡ true → (atom-of t m ≡ atom-of t k) ↔ ((i : ℕ) → i < entry_count t → has-test t m i ≡ has-test t k i)
-  pub no_atom : (t : View) (m : ℕ) → (atom-of t m ≡ None) ↔ ((i : ℕ) → i < entry_count t → has-test t m i ≡ false)
+  pub one_atom : (t : View) (m k e : ℕ) → has_test t m e ≡ true → (atom_of t m ≡ atom_of t k) ↔ ((i : ℕ) → i < entry_count t → has_test t m i ≡ has_test t k i)
+  pub no_atom : (t : View) (m : ℕ) → (atom_of t m ≡ None) ↔ ((i : ℕ) → i < entry_count t → has_test t m i ≡ false)
   -- an entry statically loads what can be reached from its host
-  pub loading : (t : View) (e a : ℕ) → (loads-test t e a ≡ true) ↔ Loads t e a
+  pub loading : (t : View) (e a : ℕ) → (loads_test t e a ≡ true) ↔ Loads t e a
   -- an atom is covered where every import chain from a non-dynamic entry passes one that loads it
-  pub covering : (t : View) (a e : ℕ) → (covered-test t a e ≡ true) ↔ Covered t a e
+  pub covering : (t : View) (a e : ℕ) → (covered_test t a e ≡ true) ↔ Covered t a e
   -- the chunks have a cycle exactly where a chunk reaches itself
-  pub cycles : (t : View) (bits : ℕ → ℕ → Bool) → (cyclic-test t bits ≡ true) ↔ Cycle (chunk_graph t bits)
+  pub cycles : (t : View) (bits : ℕ → ℕ → Bool) → (cyclic_test t bits ≡ true) ↔ Cycle (chunk_graph t bits)
 
 -- atom a may be accepted after the verdicts vs
 pub record MayFold (t : View) (veto : Veto) (vs : Verdicts) (a : ℕ) : Type 0 where
@@ -38,15 +38,15 @@ pub record MayFold (t : View) (veto : Veto) (vs : Verdicts) (a : ℕ) : Type 0 w
   pub acyclic : Cycle (chunk_graph t (on_trial t vs a)) → ⊥
 
 -- what `decided` gives, whatever atoms were decided, in whatever order, and what modules then have
-pub record Decisions (after-deciding : View → Veto → List ℕ → Verdicts) (still-has : View → Verdicts → ℕ → ℕ → Bool) : Type 0 where
+pub record Decisions (after_deciding : View → Veto → List ℕ → Verdicts) (still_has : View → Verdicts → ℕ → ℕ → Bool) : Type 0 where
   -- an atom that is decided is accepted exactly where it may be, after those decided before it
   pub exactly : (t : View) (veto : Veto) (before after : List ℕ) (a : ℕ) → listed a after ≡ false →
-      (accepted (after-deciding t veto (before ++ a ∷ after) a) ≡ true) ↔ MayFold t veto (after-deciding t veto before) a
-  pub others : (t : View) (veto : Veto) (done : List ℕ) (a : ℕ) → listed a done ≡ false → after-deciding t veto done a ≡ Undecided
+      (accepted (after_deciding t veto (before ++ a ∷ after) a) ≡ true) ↔ MayFold t veto (after_deciding t veto before) a
+  pub others : (t : View) (veto : Veto) (done : List ℕ) (a : ℕ) → listed a done ≡ false → after_deciding t veto done a ≡ Undecided
   -- portions: deciding on from where one stands
-  pub going_on : (t : View) (veto : Veto) (xs ys : List ℕ) → after-deciding t veto (xs ++ ys) ≡ decide t veto (after-deciding t veto xs) ys
+  pub going_on : (t : View) (veto : Veto) (xs ys : List ℕ) → after_deciding t veto (xs ++ ys) ≡ decide t veto (after_deciding t veto xs) ys
   -- a module has lost an entry that it had exactly where its atom is accepted and covered for that entry
   pub losing : (t : View) (vs : Verdicts) (m e : ℕ) → has t m e ≡ true →
-      (still-has t vs m e ≡ false) ↔ ((a : ℕ) × (atom t m ≡ Some a) × (accepted (vs a) ≡ true) × Covered t a e)
+      (still_has t vs m e ≡ false) ↔ ((a : ℕ) × (atom t m ≡ Some a) × (accepted (vs a) ≡ true) × Covered t a e)
   -- and gains none
-  pub gaining : (t : View) (vs : Verdicts) (m e : ℕ) → has t m e ≡ false → still-has t vs m e ≡ false
+  pub gaining : (t : View) (vs : Verdicts) (m e : ℕ) → has t m e ≡ false → still_has t vs m e ≡ false

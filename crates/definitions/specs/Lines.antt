@@ -1,6 +1,5 @@
 -- The delivery list of a closed plan.
-use Rattle.std.specs.Prelude.{ℕ, Bool, true, false, cond, ◌&&◌, List, [], ◌∷◌, ◌++◌, map, length, Some, None, Option, ◌==◌}
-use Rattle.std.specs.List.{range_with_len}
+use Rattle.std.specs.Prelude.{ℕ, Bool, false, cond, List, [], ◌∷◌, ◌++◌, length, Some, None, Option, ◌==◌}
 use Rattle.definitions.specs.declared.Verdict.{Verdict}
 use Rattle.definitions.specs.declared.Verdict.TheVariants.{Undecided, NothingLost, NothingRemains, Objected, Refused, Cyclic, Accepted, AcceptedWithNamespace}
 use Rattle.tables.specs.Below.{some_below, count_below}
@@ -12,9 +11,9 @@ use Rattle.definitions.specs.Plan.{Veto, Verdicts, number, accepted, decided, bi
 pub data Line : Type 0 where
   P : (atoms decided accepted chunks : ℕ) → Line
   A : (atom verdict shares : ℕ) → Line
-  M : (module-number atom chunk : ℕ) → Line
+  M : (module_number atom chunk : ℕ) → Line
   B : (chunk entry : ℕ) → Line
-  N : (entry module-number : ℕ) → Line
+  N : (entry module_number : ℕ) → Line
 
 -- the list over the numbers below n, in their order
 abbrev pub lines_below : ℕ → (ℕ → List Line) → List Line

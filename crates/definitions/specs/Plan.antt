@@ -8,8 +8,7 @@ use Rattle.definitions.specs.declared.ReducedEntriesAction.TheVariants.{Avoid, A
 use Rattle.tables.specs.Below.{some_below, count_below, those_below, is}
 use Rattle.definitions.specs.Graph.{cyclic}
 use Rattle.definitions.specs.Classes.{class, classes}
-use Rattle.tables.specs.View.{View, module_count, entry_count}
-use Rattle.tables.specs.Flags.{root}
+use Rattle.tables.specs.View.{View, entry_count}
 use Rattle.definitions.specs.Bits.{has, atom, atoms, members, whole, host}
 use Rattle.definitions.specs.Targets.{only, cycle_graph}
 use Rattle.definitions.specs.Rules.{trial, lost, rules}

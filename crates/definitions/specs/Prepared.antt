@@ -1,5 +1,5 @@
 -- The verdict on an atom but for the test for cycles: it depends on the table and the veto alone, and not on what was decided.
-use Rattle.std.specs.Prelude.{◌≡◌, ℕ, Bool, cond, not, List, Some, None, Option}
+use Rattle.std.specs.Prelude.{◌≡◌, ℕ, cond, not, Some, None, Option}
 use Rattle.definitions.specs.declared.Verdict.{Verdict}
 use Rattle.definitions.specs.declared.Verdict.TheVariants.{NothingLost, NothingRemains, Objected, Refused, Accepted, AcceptedWithNamespace}
 use Rattle.definitions.specs.declared.ReducedEntriesAction.{ReducedEntriesAction}

@@ -1,8 +1,8 @@
 -- Trial bits, and the rules for adding an atom to the chunk of one entry.
-use Rattle.std.specs.Prelude.{ℕ, Bool, true, false, cond, not, ◌&&◌, ◌||◌, List, [], Some, None, codes, ◌==◌}
+use Rattle.std.specs.Prelude.{ℕ, Bool, false, cond, not, ◌&&◌, ◌||◌, List, Some, None, codes, ◌==◌}
 use Rattle.definitions.specs.declared.ReducedEntriesAction.{ReducedEntriesAction}
 use Rattle.definitions.specs.declared.ReducedEntriesAction.TheVariants.{Avoid, Apply, ApplyWithNamespaceExtraction}
-use Rattle.tables.specs.Below.{every_below, some_of, each_of, is}
+use Rattle.tables.specs.Below.{every_below, is}
 use Rattle.tables.specs.Value.{Export}
 use Rattle.tables.specs.View.{View, module_count, entry_count, module_at}
 use Rattle.tables.specs.Flags.{normal, dynamic_exports, partly_used, root, dynamic_imported, async_entry, strict_signature, owner}

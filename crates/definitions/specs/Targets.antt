@@ -1,12 +1,12 @@
 -- Predicted and service targets, and the two graphs of atoms.
-use Rattle.std.specs.Prelude.{ℕ, Bool, false, cond, not, ◌&&◌, ◌||◌, List, Some, None, Option, ◌==◌}
-use Rattle.tables.specs.Below.{some_below, every_below, some_of, listed, is}
+use Rattle.std.specs.Prelude.{ℕ, Bool, false, cond, not, ◌&&◌, ◌||◌, Some, None, Option, ◌==◌}
+use Rattle.tables.specs.Below.{some_below, every_below, is}
 use Rattle.tables.specs.Value.{Export}
 use Rattle.tables.specs.View.{View, module_count, entry_count, module_at}
 use Rattle.tables.specs.Flags.{normal, effectful, inner, namespace_included, runtime_dependent, is_cjs, is_esm, root, is_root, owner, used}
 use Rattle.tables.specs.Links.{canon, alias, served}
 use Rattle.tables.specs.Names.{name_before}
-use Rattle.definitions.specs.Bits.{has, atom, atoms}
+use Rattle.definitions.specs.Bits.{has, atom}
 
 -- some symbol is there, and d owns it
 unfoldable pub owns : View → ℕ → Option ℕ → Bool

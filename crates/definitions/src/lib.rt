@@ -1,12 +1,14 @@
 // What the planner's answers ARE: bits, atoms, graphs, covering, verdicts, chunks and the delivery list, and the laws that
 // say that these definitions mean what the words of the subject mean.
+#![tactic(auto)]
+
 ghost use Rattle.std.specs.Prelude.{◌≡◌, ◌≤◌};
 ghost use Rattle.definitions.specs.Bits.{has, atom};
 ghost use Rattle.definitions.specs.Cover.{loads, covered};
 ghost use Rattle.definitions.specs.Plan.{number, need, chunks_cyclic, decided, has_after};
 ghost use Rattle.definitions.specs.Checks.{table_checked};
 ghost use Rattle.definitions.specs.Cases.{SmallCases, Refusals, in_order, first_again};
-ghost use Rattle.definitions.specs.Laws.{Tests-agree, Decisions};
+ghost use Rattle.definitions.specs.Laws.{TestsAgree, Decisions};
 ghost use Rattle.definitions.specs.Prepared.{prepared, Prepares};
 
 // The verdict on an atom. Its number stands in `number` alone.
@@ -51,7 +53,7 @@ pub enum ReducedEntriesAction {
 
 // The tests that compute say what the words of the subject say: paths, chains, cycles.
 pub fn tests_agree() -> u8
-    ensures { Tests-agree has atom loads covered chunks_cyclic }
+    ensures { TestsAgree has atom loads covered chunks_cyclic }
 {
     0
 }

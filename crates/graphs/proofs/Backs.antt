@@ -3,13 +3,13 @@ use Rattle.std.proofs.Common.{◌≡◌, ℕ, ◌+◌, ◌-◌, ◌/◌, ◌<◌
 use Rattle.std.proofs.lemmas.List.{get_or_past}
 use Rattle.std.proofs.lemmas.Bool.{cases_lt}
 use Rattle.rows.specs.Bits.{has}
-use Rattle.rows.proofs.Laws.{has-zero}
+use Rattle.rows.proofs.Laws.{has_zero}
 use Rattle.reach.specs.declared.Places.{Places}
 use Rattle.reach.specs.declared.Slot.{Slot}
 use Rattle.reach.specs.Paths.{Closed, Reached}
 use Rattle.reach.specs.Shape.{Shape, EdgeIn, Edge, FirstIn, NextSlot}
 use Rattle.reach.specs.Memory.{marks_of, mark_bit, bit_of, marked, Room, Spot, Frame, Ready}
-use Rattle.reach.proofs.Parts.{front_kept, spot, marked_is, length-marks}
+use Rattle.reach.proofs.Parts.{front_kept, spot, marked_is, length_marks}
 use Rattle.reach.proofs.Visits.{next_same, ready_asks}
 use Rattle.graphs.specs.Spreads.{Back, Cycle, Scratch, SlotsSpread}
 use Rattle.graphs.proofs.Spreading.{spread_none, spread_next, spread_all}
@@ -20,10 +20,10 @@ unfolding marked bit_of marks_of
 erased p ws long zero u =
     let k = mark_bit p u / 64 in
     let part = take (p.queue - p.marks) (drop p.marks ws) in
-    has-zero part 0 (mark_bit p u)
+    has_zero part 0 (mark_bit p u)
     (⊎_elim
     (λ (l : 0 + k < p.queue - p.marks). get_or-take (p.queue - p.marks) (drop p.marks ws) (0 + k) 0 l ∙ get_or-drop p.marks ws (0 + k) 0 ∙ zero (p.marks + (0 + k)) (omega arith) (omega arith))
-    (λ (l : p.queue - p.marks ≤ 0 + k). get_or_past part (0 + k) 0 (omega (arith, length-marks ws p.marks p.queue long)))
+    (λ (l : p.queue - p.marks ≤ 0 + k). get_or_past part (0 + k) 0 (omega (arith, length_marks ws p.marks p.queue long)))
     (cases_lt (0 + k) (p.queue - p.marks)))
 
 -- ---- `on_cycle`: the words are ws₀, and ws once the marks are erased
@@ -55,15 +55,15 @@ module _ (p : Places) (s : Shape) (ws₀ ws : List ℕ) (v : ℕ) (ready₀ : Re
     back_spot : Spot p v (length ws')
     back_spot = subst (Spot p v) (sym long) (spot p s.nodes v (length ws) ready.room ready.node)
 
-    drop-on : (us vs : List ℕ) (a n : ℕ) → drop a us ≡ drop a vs → drop (a + n) us ≡ drop (a + n) vs
-    drop-on us vs a n e = sym (drop-drop n a us) ∙ ap (drop n) e ∙ drop-drop n a vs
+    drop_on : (us vs : List ℕ) (a n : ℕ) → drop a us ≡ drop a vs → drop (a + n) us ≡ drop (a + n) vs
+    drop_on us vs a n e = sym (drop-drop n a us) ∙ ap (drop n) e ∙ drop-drop n a vs
 
     -- no slot is left
     pub back_ends : NextSlot s₂ ws' v from None → (b : Bool) → b ≡ has ws' p.marks (mark_bit p v)
         → Decides b (Back (Edge s ws₀) v) × Scratch p s.nodes ws₀ ws'
     back_ends told b is = (
       subst (λ us. Decides b (Back (EdgeIn s us) v)) read now,
-      record { below = inv.scratch.below ∙ below₁; behind = inv.scratch.behind ∙ drop-on ws ws₀ p.queue s.nodes behind₁ },
+      record { below = inv.scratch.below ∙ below₁; behind = inv.scratch.behind ∙ drop_on ws ws₀ p.queue s.nodes behind₁ },
     )
       where
         mark : b ≡ marked p ws' v
@@ -130,7 +130,7 @@ module _ (p : Places) (n : ℕ) (s s₂ : Shape) (e₂ : s₂ ≡ s) (ws ws' : L
   pub back_here : Back (Edge s ws) v → Back (Edge s₂ ws') v
   back_here b = subst (λ t. Back (Edge t ws') v) (sym e₂) (subst (λ us. Back (EdgeIn s us) v) (sym (front_kept ws ws' s.limit p.marks limit sc.below)) b)
 
-  pub scratch-on : (ws'' : List ℕ) → Scratch p s₂.nodes ws' ws'' → Scratch p n ws ws''
-  scratch-on ws'' t =
+  pub scratch_on : (ws'' : List ℕ) → Scratch p s₂.nodes ws' ws'' → Scratch p n ws ws''
+  scratch_on ws'' t =
       let u = subst (λ k. Scratch p k ws' ws'') (ap (λ t. t.nodes) e₂ ∙ sym count) t in
       record { below = u.below ∙ sc.below; behind = u.behind ∙ sc.behind }

@@ -3,7 +3,7 @@ use Rattle.std.proofs.Common.{◌≡◌, ℕ, ◌+◌, ◌*◌, ◌<◌, ◌≤�
 use native.Mathlib.Nat.{le-max_left, le-max_right}
 use Rattle.std.proofs.lemmas.Bool.{cond-true, cond-false, false≢true}
 use Rattle.rows.specs.Bits.{has}
-use Rattle.rows.proofs.Laws.{has-front}
+use Rattle.rows.proofs.Laws.{has_front}
 use Rattle.reach.specs.declared.Slot.{Slot}
 use Rattle.reach.specs.Paths.{Way, here, step}
 use Rattle.reach.specs.Shape.{Edge, NextSlot}
@@ -43,7 +43,7 @@ module _ (n limit : ℕ) (test : List ℕ → ℕ → ℕ → Bool) (ws : List �
 
 module _ (at n : ℕ) (few : n ≤ 256) (ws : List ℕ) where
   row_is : (v w : ℕ) → v < n → w < n → row_test at (take (at + 4 * n) ws) v w ≡ has ws (at + 4 * v) w
-  row_is v w hv hw = has-front ws (at + 4 * n) (at + 4 * v) w (omega arith)
+  row_is v w hv hw = has_front ws (at + 4 * n) (at + 4 * v) w (omega arith)
 
   pub row_edge : (v w : ℕ) → Edge (row_shape at n) ws v w → RowEdge at n ws v w
   row_edge v w e = let q = test_edge n (at + 4 * n) (row_test at) ws v w e in (q.0, q.1, sym (row_is v w q.0 q.1) ∙ q.2)
@@ -60,17 +60,17 @@ module _ (at n barred : ℕ) (few : n ≤ 256) (ws : List ℕ) where
   abbrev limit : ℕ
   limit = max (at + 4 * n) (barred + 4)
 
-  pub limit-least : (m : ℕ) → at + 4 * n ≤ m → barred + 4 ≤ m → limit ≤ m
-  limit-least m a b = omega arith
+  pub limit_least : (m : ℕ) → at + 4 * n ≤ m → barred + 4 ≤ m → limit ≤ m
+  limit_least m a b = omega arith
 
-  unless-row : (v w : ℕ) → v < n → w < n → has (take limit ws) (at + 4 * v) w ≡ has ws (at + 4 * v) w
-  unless-row v w hv hw = has-front ws limit (at + 4 * v) w (omega (arith, le-max_left (at + 4 * n) (barred + 4)))
+  unless_row : (v w : ℕ) → v < n → w < n → has (take limit ws) (at + 4 * v) w ≡ has ws (at + 4 * v) w
+  unless_row v w hv hw = has_front ws limit (at + 4 * v) w (omega (arith, le-max_left (at + 4 * n) (barred + 4)))
 
   unless_barred : (v : ℕ) → v < n → has (take limit ws) barred v ≡ has ws barred v
-  unless_barred v hv = has-front ws limit barred v (omega (arith, le-max_right (at + 4 * n) (barred + 4)))
+  unless_barred v hv = has_front ws limit barred v (omega (arith, le-max_right (at + 4 * n) (barred + 4)))
 
   unless_is : (v w : ℕ) → v < n → w < n → unless_test at barred (take limit ws) v w ≡ (not (has ws barred v) && has ws (at + 4 * v) w)
-  unless_is v w hv hw = ap₂ (λ a b. not a && b) (unless_barred v hv) (unless-row v w hv hw)
+  unless_is v w hv hw = ap₂ (λ a b. not a && b) (unless_barred v hv) (unless_row v w hv hw)
 
   both : (a b : Bool) → (not a && b) ≡ true → (a ≡ false) × (b ≡ true)
   both false true e = (refl, refl)

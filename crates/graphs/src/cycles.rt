@@ -27,10 +27,10 @@ pub fn on_cycle<'t, S, G: Graph<'t, S>>(
     places: Places,
     v: usize,
 ) -> bool
-    requires { Ready places (shape graph.now (means source.old)) (length words.old) v }
-    ensures answer { Decides result (Back (Edge (shape graph.now (means source.old)) words.old) v) }
-    ensures scratch { Scratch places (shape graph.now (means source.old)).nodes words.old words.new }
-    ensures kept { means source.new ≡ means source.old }
+    requires { Ready places (G.shape graph.now (G.means source.old)) (length words.old) v }
+    ensures answer { Decides result (Back (Edge (G.shape graph.now (G.means source.old)) words.old) v) }
+    ensures scratch { Scratch places (G.shape graph.now (G.means source.old)).nodes words.old words.new }
+    ensures kept { G.means source.new ≡ G.means source.old }
 {
     erase_marks(words, places);
     let mut from = 0;
@@ -49,12 +49,12 @@ pub fn has_cycle<'t, S, G: Graph<'t, S>>(
     places: Places,
     nodes: usize,
 ) -> bool
-    requires nodes { nodes ≡ (shape graph.now (means source.old)).nodes }
-    requires limit { (shape graph.now (means source.old)).limit ≤ places.marks }
+    requires nodes { nodes ≡ (G.shape graph.now (G.means source.old)).nodes }
+    requires limit { (G.shape graph.now (G.means source.old)).limit ≤ places.marks }
     requires room { Room places nodes (length words.old) }
-    ensures answer { Decides result (Cycle (Edge (shape graph.now (means source.old)) words.old)) }
+    ensures answer { Decides result (Cycle (Edge (G.shape graph.now (G.means source.old)) words.old)) }
     ensures scratch { Scratch places nodes words.old words.new }
-    ensures kept { means source.new ≡ means source.old }
+    ensures kept { G.means source.new ≡ G.means source.old }
 {
     for v in 0..nodes {
         if on_cycle(graph, source, words, places, v) {

@@ -1,5 +1,5 @@
 -- The columns of a field, one at a time.
-use Rattle.std.proofs.Common.{◌≡◌, ℕ, ◌+◌, ◌-◌, ◌*◌, ◌^◌, ◌<◌, ◌≤◌, Bool, true, false, cond, ◌&&◌, eqb, leb, List, [], ◌∷◌, length, get_or, take, drop, Ok, Err, Result, sym, refl, ap, ◌∙◌, arith, lit<, pow-add}
+use Rattle.std.proofs.Common.{◌≡◌, ℕ, ◌+◌, ◌-◌, ◌*◌, ◌^◌, ◌<◌, ◌≤◌, Bool, cond, ◌&&◌, eqb, leb, List, length, get_or, take, drop, Ok, Err, Result, sym, ap, ◌∙◌, arith, lit<, pow-add}
 use native.Mathlib.Nat.{pow-le-pow_right}
 use Rattle.std.proofs.lemmas.Bool.{and_parts, and_from, leb-true, le-leb, eq-eqb, ne_eqb, cond_both}
 use Rattle.std.proofs.lemmas.List.{at_drop_more, at_drop_all, take_rest, get_or_past}
@@ -37,8 +37,8 @@ widen Zero m n le s = tt
 widen (Number v) m n le s = omega arith
 widen Wrong m n le s = tt
 
-pub small-here : (f : Field) (i : ℕ) → i ≤ 5 → Small f (10 ^ i) → Small f 100000
-small-here f i le s = widen f (10 ^ i) 100000 (pow-le-pow_right {n = 10} (lit< tt) {i = i} {j = 5} le) s
+pub small_here : (f : Field) (i : ℕ) → i ≤ 5 → Small f (10 ^ i) → Small f 100000
+small_here f i le s = widen f (10 ^ i) 100000 (pow-le-pow_right {n = 10} (lit< tt) {i = i} {j = 5} le) s
 
 module _ (xs : List ℕ) (i : ℕ) (f whole : Field) (inv : columns f (drop i xs) ≡ whole) where
   pub columns_more : (r : Field) → r ≡ column f (get_or xs i 0) → i < length xs → columns r (drop (i + 1) xs) ≡ whole

@@ -1,5 +1,5 @@
 -- A line by its letter, its fields and its name. The second value of a result is the wrong column, from 1.
-use Rattle.std.specs.Prelude.{ℕ, Bool, true, false, cond, List, [], ◌∷◌, Some, None, Ok, Err, Option, Result, ◌==◌, slice_index_or}
+use Rattle.std.specs.Prelude.{ℕ, cond, List, [], ◌∷◌, Some, None, Ok, Err, Option, Result, ◌==◌, slice_index_or}
 use Rattle.lines.specs.Field.{bind, number, optional, bit, name, ended}
 
 -- a line: its letter, its fields, absent where they are blank, and its name, empty where the kind has none

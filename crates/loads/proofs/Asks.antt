@@ -20,9 +20,9 @@ abbrev told : Option Module → Bool
 told None = false
 told (Some m) = flag 1 m.flags && flag 2 m.flags
 
-usable-told : (t : Table) (m : ℕ) → usable (view t) m ≡ told (slice_get t.modules m)
+usable_told : (t : Table) (m : ℕ) → usable (view t) m ≡ told (slice_get t.modules m)
 unfolding usable normal included view
-usable-told t m =
+usable_told t m =
     ⊎_elim
     (λ (l : m < length t.modules).
     ap (λ b. (b && flag 1 (get_or t.modules m no_module).flags) && flag 2 (get_or t.modules m no_module).flags) (lt-ltb m (length t.modules) l)
@@ -33,14 +33,14 @@ usable-told t m =
     (cases_lt m (length t.modules))
 
 pub usable_some : (t : Table) (m : ℕ) (info : ModuleInfo) → Some info ≡ table_module t m → (flag 1 info.flags && flag 2 info.flags) ≡ usable (view t) m
-usable_some t m info e = go (slice_get t.modules m) e ∙ sym (usable-told t m)
+usable_some t m info e = go (slice_get t.modules m) e ∙ sym (usable_told t m)
   where
     go : (o : Option Module) → Some info ≡ option_map info_of o → (flag 1 info.flags && flag 2 info.flags) ≡ told o
     go None e = let z : ◌≡◌ {A = ℕ} 0 1 = cc in absurd (omega arith)
     go (Some x) e = let z : info.flags ≡ x.flags = cc in ap (λ f. flag 1 f && flag 2 f) z
 
 pub usable_none : (t : Table) (m : ℕ) → None ≡ table_module t m → false ≡ usable (view t) m
-usable_none t m e = go (slice_get t.modules m) e ∙ sym (usable-told t m)
+usable_none t m e = go (slice_get t.modules m) e ∙ sym (usable_told t m)
   where
     go : (o : Option Module) → None ≡ option_map info_of o → false ≡ told o
     go None e = refl
@@ -62,11 +62,11 @@ Empty t v from end = (i : ℕ) → from ≤ i → i < end → load_slot t v i �
 
 -- the table means t at first, and t₂ at a turn
 module _ (t t₂ : Table) (same : t₂ ≡ t) (v from i : ℕ) (before : Empty t v from i) where
-  pub slot-empty : (r : Option ℕ) → r ≡ load_slot t₂ v i → ((w : ℕ) → r ≡ Some w → ⊥) → Empty t v from (i + 1)
-  slot-empty None answer miss j a b =
+  pub slot_empty : (r : Option ℕ) → r ≡ load_slot t₂ v i → ((w : ℕ) → r ≡ Some w → ⊥) → Empty t v from (i + 1)
+  slot_empty None answer miss j a b =
       ⊎_elim (λ (l : j < i). before j a l)
       (λ (l : i ≤ j). let here : j ≡ i = omega arith in ap (load_slot t v) here ∙ ap (λ u. load_slot u v i) (sym same) ∙ sym answer) (cases_lt j i)
-  slot-empty (Some w) answer miss j a b = absurd (miss w refl)
+  slot_empty (Some w) answer miss j a b = absurd (miss w refl)
 
   pub slot_found : (ws : List ℕ) (w end : ℕ) → Some w ≡ load_slot t₂ v i → from ≤ i → i < end → end ≡ load_count t v → end < 2 ^ 64
       → NextSlot (load_shape t) ws v from (Some (record { index = i; node = w }))
@@ -79,6 +79,6 @@ module _ (t t₂ : Table) (same : t₂ ≡ t) (v from i : ℕ) (before : Empty t
     fits = omega arith;
   }
 
-pub slots-empty : (t : Table) (ws : List ℕ) (v from i end : ℕ) → Empty t v from i → end ≤ i → end ≡ load_count t v → NextSlot (load_shape t) ws v from None
+pub slots_empty : (t : Table) (ws : List ℕ) (v from i end : ℕ) → Empty t v from i → end ≤ i → end ≡ load_count t v → NextSlot (load_shape t) ws v from None
 unfolding load_shape
-slots-empty t ws v from i end before past all j a b = before j a (omega arith)
+slots_empty t ws v from i end before past all j a b = before j a (omega arith)

@@ -7,7 +7,7 @@ use Rattle.tables.specs.Asked.{items_of, item_at}
 use Rattle.tables.specs.declared.thing.ModuleList.TheVariants.{Loads}
 use Rattle.reach.specs.Shape.{Shape}
 use Rattle.definitions.specs.Bits.{usable}
-use Rattle.definitions.proofs.Bits.{usable-below}
+use Rattle.definitions.proofs.Bits.{usable_below}
 
 -- the module, if it is usable
 abbrev pub if_usable : View → ℕ → Option ℕ
@@ -45,5 +45,5 @@ load_shape t = record {
   limit = 0;
   slots = λ _ v. load_count t v;
   slot = λ _ v i. load_slot t v i;
-  inside = λ us v i w h e. subst (λ n. w < n) (view_modules t) (usable-below (view t) w (usable_of_some (view t) (item_at t Loads v i) w e).1);
+  inside = λ us v i w h e. subst (λ n. w < n) (view_modules t) (usable_below (view t) w (usable_of_some (view t) (item_at t Loads v i) w e).1);
 }

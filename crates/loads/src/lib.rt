@@ -1,4 +1,6 @@
 // The graph of a table's load dependencies, cut down to the modules that are normal and included.
+#![tactic(auto)]
+
 ghost use Rattle.std.specs.Prelude.{◌≡◌, ◌&&◌};
 ghost use Rattle.tables.specs.Value.{Meaning};
 ghost use Rattle.tables.specs.View.{view};
@@ -19,8 +21,8 @@ fn is_usable(flags: u32) -> bool
 
 // Whether module `m` is normal and included.
 pub fn usable_module<'t, T: LinkTable<'t>>(table: &mut T, m: usize) -> bool
-    ensures answer { result ≡ usable (view (means table.old).table) m }
-    ensures kept { means table.new ≡ means table.old }
+    ensures answer { result ≡ usable (view (T.means table.old).table) m }
+    ensures kept { T.means table.new ≡ T.means table.old }
 {
     match table.module(m) {
         Some(info) => is_usable(info.flags),
@@ -30,8 +32,8 @@ pub fn usable_module<'t, T: LinkTable<'t>>(table: &mut T, m: usize) -> bool
 
 // How many modules `m` loads.
 fn count_loads<'t, T: LinkTable<'t>>(table: &mut T, m: usize) -> usize
-    ensures answer { result ≡ load_count (means table.old).table m }
-    ensures kept { means table.new ≡ means table.old }
+    ensures answer { result ≡ load_count (T.means table.old).table m }
+    ensures kept { T.means table.new ≡ T.means table.old }
 {
     match table.module(m) {
         Some(info) => info.loads,
@@ -41,8 +43,8 @@ fn count_loads<'t, T: LinkTable<'t>>(table: &mut T, m: usize) -> usize
 
 // Load `i` of module `m`, if that is a module that is normal and included.
 fn usable_load<'t, T: LinkTable<'t>>(table: &mut T, m: usize, i: usize) -> Option<usize>
-    ensures answer { result ≡ load_slot (means table.old).table m i }
-    ensures kept { means table.new ≡ means table.old }
+    ensures answer { result ≡ load_slot (T.means table.old).table m i }
+    ensures kept { T.means table.new ≡ T.means table.old }
 {
     let Some(load) = table.item(ModuleList::Loads, m, i) else {
         return None;

@@ -20,9 +20,9 @@ module _ (ws : List ℕ) (marks queue : ℕ) where
       ap (λ j. get_or (take (queue - marks) (drop marks ws)) j 0) (zero-add k)
       ∙ get_or-take (queue - marks) (drop marks ws) k 0 (omega arith) ∙ get_or-drop marks ws k 0
 
-  pub has-marks : (w : ℕ) → marks + w / 64 < queue → has (marks_of marks queue ws) 0 w ≡ has ws marks w
+  pub has_marks : (w : ℕ) → marks + w / 64 < queue → has (marks_of marks queue ws) 0 w ≡ has ws marks w
   unfolding has
-  has-marks w h = ap (λ x. bit x (w % 64)) (word_of_marks (w / 64) h)
+  has_marks w h = ap (λ x. bit x (w % 64)) (word_of_marks (w / 64) h)
 
   -- a word of the marks is written
   set_marks : (k x : ℕ) → marks + k < queue → marks_of marks queue (set ws (marks + k) x) ≡ set (marks_of marks queue ws) (0 + k) x
@@ -62,9 +62,9 @@ module _ (ws : List ℕ) (marks queue : ℕ) where
   pub push_front : (t x : ℕ) → marks ≤ queue → take marks (set ws (queue + t) x) ≡ take marks ws
   push_front t x h = take-set-le marks ws (queue + t) x (omega arith)
 
-pub length-marks : (ws : List ℕ) (marks queue : ℕ) → queue ≤ length ws → length (marks_of marks queue ws) ≡ queue - marks
+pub length_marks : (ws : List ℕ) (marks queue : ℕ) → queue ≤ length ws → length (marks_of marks queue ws) ≡ queue - marks
 unfolding marks_of
-length-marks ws marks queue h = simp (length-take, length-drop) (omega arith)
+length_marks ws marks queue h = simp (length-take, length-drop) (omega arith)
 
 -- a shorter front is kept too
 pub front_kept : (ws vs : List ℕ) (n m : ℕ) → n ≤ m → take m vs ≡ take m ws → take n vs ≡ take n ws
@@ -114,7 +114,7 @@ when_not P Q e q = subst (λ b. MatchBool b P Q) (sym e) q
 module _ (ws : List ℕ) (p : Places) (w : ℕ) (s : Spot p w (length ws)) where
   pub marked_is : marked p ws w ≡ has ws p.marks (mark_bit p w)
   unfolding marked bit_of
-  marked_is = has-marks ws p.marks p.queue (mark_bit p w) s.within
+  marked_is = has_marks ws p.marks p.queue (mark_bit p w) s.within
 
   bit_mark : (j : ℕ) → bit_of p (with_bit ws p.marks (mark_bit p w)) j ≡ (bit_of p ws j || eqb (mark_bit p w) j)
   unfolding bit_of
@@ -122,7 +122,7 @@ module _ (ws : List ℕ) (p : Places) (w : ℕ) (s : Spot p w (length ws)) where
       let within = s.within in
       let long = s.long in
       ap (λ us. has us 0 j) (mark_marks ws p.marks p.queue (mark_bit p w) s.within)
-      ∙ has-with_bit (marks_of p.marks p.queue ws) 0 (mark_bit p w) j (omega (arith, length-marks ws p.marks p.queue s.long))
+      ∙ has-with_bit (marks_of p.marks p.queue ws) 0 (mark_bit p w) j (omega (arith, length_marks ws p.marks p.queue s.long))
 
   bit_stays : (j : ℕ) → mark_bit p w ≢ j → bit_of p (with_bit ws p.marks (mark_bit p w)) j ≡ bit_of p ws j
   bit_stays j ne = bit_mark j ∙ ap (◌||◌ (bit_of p ws j)) (ne_eqb (mark_bit p w) j ne) ∙ or-false (bit_of p ws j)
@@ -153,8 +153,8 @@ module _ (ws : List ℕ) (p : Places) (w : ℕ) (s : Spot p w (length ws)) where
           );
         }
 
-    pub frame-new : (n : ℕ) → w < n → tail < n → Frame p n ws vs
-    frame-new n small room =
+    pub frame_new : (n : ℕ) → w < n → tail < n → Frame p n ws vs
+    frame_new n small room =
         let us = with_bit ws p.marks (mark_bit p w) in
         let within = s.within in
         record {

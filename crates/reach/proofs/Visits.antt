@@ -67,8 +67,8 @@ module _ (p : Places) (s : Shape) (ws : List ℕ) (v tail : ℕ) (ready : Ready 
       pub slot_spot : Spot p found.node (length ws')
       slot_spot = subst (Spot p found.node) (sym long) (spot p s.nodes found.node (length ws) ready.room inside)
 
-      pub slot-room : marked p ws' found.node ≡ false → p.queue + end < length ws'
-      slot-room new = let queue = ready.room.queue in omega (arith, room_in new)
+      pub slot_room : marked p ws' found.node ≡ false → p.queue + end < length ws'
+      slot_room new = let queue = ready.room.queue in omega (arith, room_in new)
 
       pub slot_done : {ws'' : List ℕ} {end' : ℕ} → Found (marked p ws') (queue_of p ws') end found.node (marked p ws'') (queue_of p ws'') end'
           → ((n : ℕ) → found.node < n → (marked p ws' found.node ≡ false → end < n) → Frame p n ws' ws'')

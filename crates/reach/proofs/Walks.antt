@@ -17,14 +17,14 @@ some_same e = cc
 
 -- ---- a closed set of marks
 
-pub closed-full : {edge : ℕ → ℕ → Type 0} {start v : ℕ} (mark : ℕ → Bool) → Closed edge mark → mark start ≡ true → Way edge start v → mark v ≡ true
-closed-full mark closed h here = h
-closed-full mark closed h (step p e) = closed _ _ (closed-full mark closed h p) e
+pub closed_full : {edge : ℕ → ℕ → Type 0} {start v : ℕ} (mark : ℕ → Bool) → Closed edge mark → mark start ≡ true → Way edge start v → mark v ≡ true
+closed_full mark closed h here = h
+closed_full mark closed h (step p e) = closed _ _ (closed_full mark closed h p) e
 
 -- a closed set that has the start, and of which each member has a path, is what can be reached
 pub closed_reached : {edge : ℕ → ℕ → Type 0} (start : ℕ) (old mark : ℕ → Bool) → Closed edge mark → mark start ≡ true
     → ((v : ℕ) → old v ≡ true → mark v ≡ true) → ((v : ℕ) → mark v ≡ true → (old v ≡ true) ⊎ Way edge start v) → Reached edge start old mark
-closed_reached start old mark closed h kept sound = record { kept = kept; full = λ v p. closed-full mark closed h p; sound = sound }
+closed_reached start old mark closed h kept sound = record { kept = kept; full = λ v p. closed_full mark closed h p; sound = sound }
 
 -- what can be reached is closed
 pub reached_closed : {edge : ℕ → ℕ → Type 0} {start : ℕ} {old mark : ℕ → Bool} → Closed edge old → Reached edge start old mark → Closed edge mark

@@ -1,5 +1,7 @@
 // What can be reached in a graph, for any kind of graph whose nodes are numbers. A graph is asked of a source, as a
 // table that is asked by `&mut`, and of the words of a memory; the marks and the queue stand in that memory too.
+#![tactic(auto)]
+
 ghost use Rattle.std.specs.Prelude.{◌≡◌, ℕ, ◌+◌, ◌*◌, ◌<◌, ◌≤◌, true, false, length, Some};
 ghost use Rattle.rows.specs.Bits.{count};
 ghost use Rattle.reach.specs.Paths.{Closed, Reached};
@@ -68,13 +70,13 @@ fn visit<'t, S, G: Graph<'t, S>>(
     tail: usize,
     v: usize,
 ) -> usize
-    requires ready { Ready places (shape graph.now (means source.old)) (length words.old) v }
-    requires few { tail ≤ count (marked places words.old) (shape graph.now (means source.old)).nodes }
-    ensures few { result ≤ count (marked places words.new) (shape graph.now (means source.old)).nodes }
-    ensures full { (w : ℕ) → Edge (shape graph.now (means source.old)) words.old v w → marked places words.new w ≡ true }
-    ensures goes { (head : ℕ) → Goes (Edge (shape graph.now (means source.old)) words.old) (shape graph.now (means source.old)).nodes (marked places words.old) (queue_of places words.old) head tail (Some v) (marked places words.new) (queue_of places words.new) head result (Some v) }
-    ensures frame { Frame places (shape graph.now (means source.old)).nodes words.old words.new }
-    ensures kept { means source.new ≡ means source.old }
+    requires ready { Ready places (G.shape graph.now (G.means source.old)) (length words.old) v }
+    requires few { tail ≤ count (marked places words.old) (G.shape graph.now (G.means source.old)).nodes }
+    ensures few { result ≤ count (marked places words.new) (G.shape graph.now (G.means source.old)).nodes }
+    ensures full { (w : ℕ) → Edge (G.shape graph.now (G.means source.old)) words.old v w → marked places words.new w ≡ true }
+    ensures goes { (head : ℕ) → Goes (Edge (G.shape graph.now (G.means source.old)) words.old) (G.shape graph.now (G.means source.old)).nodes (marked places words.old) (queue_of places words.old) head tail (Some v) (marked places words.new) (queue_of places words.new) head result (Some v) }
+    ensures frame { Frame places (G.shape graph.now (G.means source.old)).nodes words.old words.new }
+    ensures kept { G.means source.new ≡ G.means source.old }
 {
     let mut end = tail;
     let mut from = 0;
@@ -94,11 +96,11 @@ pub fn reach<'t, S, G: Graph<'t, S>>(
     places: Places,
     start: usize,
 )
-    requires ready { Ready places (shape graph.now (means source.old)) (length words.old) start }
-    requires closed { Closed (Edge (shape graph.now (means source.old)) words.old) (marked places words.old) }
-    ensures reached { Reached (Edge (shape graph.now (means source.old)) words.old) start (marked places words.old) (marked places words.new) }
-    ensures frame { Frame places (shape graph.now (means source.old)).nodes words.old words.new }
-    ensures kept { means source.new ≡ means source.old }
+    requires ready { Ready places (G.shape graph.now (G.means source.old)) (length words.old) start }
+    requires closed { Closed (Edge (G.shape graph.now (G.means source.old)) words.old) (marked places words.old) }
+    ensures reached { Reached (Edge (G.shape graph.now (G.means source.old)) words.old) start (marked places words.old) (marked places words.new) }
+    ensures frame { Frame places (G.shape graph.now (G.means source.old)).nodes words.old words.new }
+    ensures kept { G.means source.new ≡ G.means source.old }
 {
     let mut head = 0;
     let mut tail = find(words, places, 0, start);

@@ -1,5 +1,7 @@
 // Walks over a graph of five nodes: 0 to 1, 1 to 2, 3 to 0, and 4 alone. The rows of the graph stand in the words 0 to 19,
 // the row of barred nodes at 20, that of starts at 24, the marks at 28 and the queue at 32.
+#![tactic(auto)]
+
 ghost use Rattle.std.specs.Prelude.{◌≡◌, ◌<◌, length};
 
 use graphs::adjacency::{RowsAt, RowsUnless};

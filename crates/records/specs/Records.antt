@@ -1,5 +1,5 @@
 -- What the record table's records mean.
-use Rattle.std.specs.Prelude.{ℕ, cond, List, map, Some, None, Option}
+use Rattle.std.specs.Prelude.{ℕ, cond, map, Some, None, Option}
 use Rattle.tables.specs.Value.{Module, Entry, Table, Meaning}
 use Rattle.tables.specs.Asked.{export_value, bytes_of, present}
 use Rattle.records.specs.declared.EntryRecord.{EntryRecord}
@@ -42,18 +42,18 @@ abbrev numbered : RecordList → ℕ → RecordPlace
 numbered l n = record { list = l; number = n }
 
 -- the list that a thing's record stands in, and its number there
-abbrev pub recordPlace : Thing → RecordPlace
-recordPlace thing.Header = numbered lists.Header 0
-recordPlace (thing.Module m) = numbered lists.Modules m
-recordPlace (thing.Item l m i) = numbered (lists.Items l m) i
-recordPlace (thing.Export m i) = numbered (lists.Exports m) i
-recordPlace (thing.Partial m i) = numbered (lists.Partial m) i
-recordPlace (thing.Entry e) = numbered lists.Entries e
-recordPlace (thing.Site e i) = numbered (lists.Sites e) i
-recordPlace (thing.Symbol s) = numbered lists.Symbols s
+abbrev pub record_place : Thing → RecordPlace
+record_place thing.Header = numbered lists.Header 0
+record_place (thing.Module m) = numbered lists.Modules m
+record_place (thing.Item l m i) = numbered (lists.Items l m) i
+record_place (thing.Export m i) = numbered (lists.Exports m) i
+record_place (thing.Partial m i) = numbered (lists.Partial m) i
+record_place (thing.Entry e) = numbered lists.Entries e
+record_place (thing.Site e i) = numbered (lists.Sites e) i
+record_place (thing.Symbol s) = numbered lists.Symbols s
 
 abbrev pub place_in : RecordTable → Thing → Field → Option RecordPlace
-place_in t th f = cond (present (table_of t) th) (Some (recordPlace th)) None
+place_in t th f = cond (present (table_of t) th) (Some (record_place th)) None
 
 abbrev pub meaning_of : RecordTable → Meaning RecordPlace
 meaning_of t = record { table = table_of t; place = place_in t }

@@ -1,8 +1,10 @@
 // The table over lists of records.
+#![tactic(auto)]
+
 ghost use Rattle.std.specs.Prelude.{◌≡◌, length};
 ghost use Rattle.std.specs.List.{slice_get};
 ghost use Rattle.tables.specs.Asked.{list_in, items_of, exports_of, partials_of, sites_of, present};
-ghost use Rattle.records.specs.Records.{module_of, table_of, recordPlace, meaning_of};
+ghost use Rattle.records.specs.Records.{module_of, table_of, record_place, meaning_of};
 
 use tables::parts::{EntryInfo, Export, ModuleInfo, Site, Symbol};
 use tables::table::LinkTable;
@@ -139,7 +141,7 @@ fn has(t: &RecordTable, thing: Thing) -> bool
 
 // The place of a thing that is there.
 fn place(thing: Thing) -> RecordPlace
-    ensures { result ≡ recordPlace thing }
+    ensures { result ≡ record_place thing }
 {
     let (list, number) = match thing {
         Thing::Header => (RecordList::Header, 0),

@@ -20,12 +20,12 @@ pub bit_suc : (n k : ℕ) → bit n (suc k) ≡ bit (n / 2) k
 unfolding bit
 bit_suc n k = ap (λ (x : ℕ). eqb (x % 2) 1) (ap (λ (x : ℕ). n / 2 ^ x) (omega arith) ∙ sym (shr-shr n 1 k))
 
-pub bit-zero : (n : ℕ) → bit n 0 ≡ eqb (n % 2) 1
+pub bit_zero : (n : ℕ) → bit n 0 ≡ eqb (n % 2) 1
 unfolding bit
-bit-zero n = ap (λ (x : ℕ). eqb (x % 2) 1) (omega arith)
+bit_zero n = ap (λ (x : ℕ). eqb (x % 2) 1) (omega arith)
 
 pub zero_bit : (k : ℕ) → bit 0 k ≡ false
-zero_bit zero = bit-zero 0
+zero_bit zero = bit_zero 0
 zero_bit (suc k) = bit_suc 0 k ∙ zero_bit k
 
 -- ---- `|` and `&`
@@ -83,9 +83,9 @@ half : (j : ℕ) → 2 ^ suc j / 2 ≡ 2 ^ j
 half j = omega (arith, pow-suc 2 j)
 
 pub bit_pow : (j k : ℕ) → bit (2 ^ j) k ≡ eqb j k
-bit_pow zero zero = bit-zero 1
+bit_pow zero zero = bit_zero 1
 bit_pow zero (suc k) = bit_suc 1 k ∙ zero_bit k ∙ sym (eqb-zero-suc k)
-bit_pow (suc j) zero = bit-zero (2 ^ suc j) ∙ ap (λ (x : ℕ). eqb x 1) (even j) ∙ sym (eqb-suc-zero j)
+bit_pow (suc j) zero = bit_zero (2 ^ suc j) ∙ ap (λ (x : ℕ). eqb x 1) (even j) ∙ sym (eqb-suc-zero j)
 bit_pow (suc j) (suc k) = bit_suc (2 ^ suc j) k ∙ ap (λ (x : ℕ). bit x k) (half j) ∙ bit_pow j k ∙ sym (eqb-suc-suc j k)
 
 not_digit : (d e : ℕ) → d < 2 → e ≡ 1 - d → eqb e 1 ≡ not (eqb d 1)
@@ -97,8 +97,8 @@ not_digit (suc (suc d)) e hd he = no_digit hd
 pub bit_not : (n a k : ℕ) → a < 2 ^ n → k < n → bit (2 ^ n - 1 - a) k ≡ not (bit a k)
 bit_not zero a k ha hk = absurd (not-suc-le-zero hk)
 bit_not (suc n) a zero ha hk =
-    bit-zero (2 ^ suc n - 1 - a) ∙ not_digit (a % 2) ((2 ^ suc n - 1 - a) % 2) (below_two a) (omega (arith, pow-suc 2 n))
-    ∙ ap not (sym (bit-zero a))
+    bit_zero (2 ^ suc n - 1 - a) ∙ not_digit (a % 2) ((2 ^ suc n - 1 - a) % 2) (below_two a) (omega (arith, pow-suc 2 n))
+    ∙ ap not (sym (bit_zero a))
 bit_not (suc n) a (suc k) ha hk =
     bit_suc (2 ^ suc n - 1 - a) k
     ∙ ap (λ (x : ℕ). bit x k) (omega (arith, pow-suc 2 n))
@@ -142,7 +142,7 @@ pub same_bits : (n a b : ℕ) → a < 2 ^ n → b < 2 ^ n → ((k : ℕ) → k <
 same_bits zero a b ha hb h = lt-one ha ∙ sym (lt-one hb)
 same_bits (suc n) a b ha hb h =
     let low : a % 2 ≡ b % 2 =
-    digit_same (a % 2) (b % 2) (below_two a) (below_two b) (sym (bit-zero a) ∙ h zero (omega arith) ∙ bit-zero b) in
+    digit_same (a % 2) (b % 2) (below_two a) (below_two b) (sym (bit_zero a) ∙ h zero (omega arith) ∙ bit_zero b) in
     let high : a / 2 ≡ b / 2 =
     same_bits n (a / 2) (b / 2) (omega (arith, pow-suc 2 n)) (omega (arith, pow-suc 2 n))
     (λ k l. sym (bit_suc a k) ∙ h (suc k) (omega arith) ∙ bit_suc b k) in
@@ -165,11 +165,11 @@ lowest_even : (w t : ℕ) → w % 2 ≡ 0 → Lowest (w / 2) t → Lowest w (suc
 lowest_even w t e h = (bit_suc w t ∙ h.0, below)
   where
     below : (k : ℕ) → k < suc t → bit w k ≡ false
-    below zero l = bit-zero w ∙ ap (λ (x : ℕ). eqb x 1) e
+    below zero l = bit_zero w ∙ ap (λ (x : ℕ). eqb x 1) e
     below (suc k) l = bit_suc w k ∙ h.1 k (omega arith)
 
 lowest_odd : (w : ℕ) → w % 2 ≡ 1 → Lowest w 0
-lowest_odd w e = (bit-zero w ∙ ap (λ (x : ℕ). eqb x 1) e, λ k l. absurd (not-suc-le-zero l))
+lowest_odd w e = (bit_zero w ∙ ap (λ (x : ℕ). eqb x 1) e, λ k l. absurd (not-suc-le-zero l))
 
 -- what `trailing_zeros` answers
 pub lowest : (n w : ℕ) → w < 2 ^ n → 0 < w → Lowest w (count_trailing_zeros n w)
@@ -197,7 +197,7 @@ pub ones_count : (n w : ℕ) → w < 2 ^ n → ones w ≡ count (bit w) n
 unfolding ones count
 ones_count zero w h = ap ones (lt-one h)
 ones_count (suc n) w h =
-    let low : w % 2 ≡ cond (bit w 0) 1 0 = digit_count (w % 2) (below_two w) ∙ ap (λ b. cond b 1 0) (sym (bit-zero w)) in
+    let low : w % 2 ≡ cond (bit w 0) 1 0 = digit_count (w % 2) (below_two w) ∙ ap (λ b. cond b 1 0) (sym (bit_zero w)) in
     let high : ones (w / 2) ≡ count (λ k. bit w (suc k)) n =
     ones_count n (w / 2) (omega (arith, pow-suc 2 n)) ∙ count_same (bit (w / 2)) (λ k. bit w (suc k)) n (λ k _. sym (bit_suc w k)) in
     ones_step w ∙ ap₂ ◌+◌ low high ∙ sym (count_first (bit w) n)

@@ -17,22 +17,22 @@ use Rattle.rows.proofs.Digits.{bit-or, bit-and, bit_less, bit_pow, bit_not, zero
 -- ---- any words
 
 -- a bit of a set depends on its own word only
-pub has-frame : (ws vs : List ℕ) (at i : ℕ) → get_or ws (at + i / 64) 0 ≡ get_or vs (at + i / 64) 0 → has ws at i ≡ has vs at i
+pub has_frame : (ws vs : List ℕ) (at i : ℕ) → get_or ws (at + i / 64) 0 ≡ get_or vs (at + i / 64) 0 → has ws at i ≡ has vs at i
 unfolding has
-has-frame ws vs at i e = ap (λ (x : ℕ). bit x (i % 64)) e
+has_frame ws vs at i e = ap (λ (x : ℕ). bit x (i % 64)) e
 
 -- in the first n words
-pub has-front : (ws : List ℕ) (n at i : ℕ) → at + i / 64 < n → has (take n ws) at i ≡ has ws at i
-has-front ws n at i h = has-frame (take n ws) ws at i (get_or-take n ws (at + i / 64) 0 h)
+pub has_front : (ws : List ℕ) (n at i : ℕ) → at + i / 64 < n → has (take n ws) at i ≡ has ws at i
+has_front ws n at i h = has_frame (take n ws) ws at i (get_or-take n ws (at + i / 64) 0 h)
 
 -- a word of zeros has no bit
-pub has-zero : (ws : List ℕ) (at i : ℕ) → get_or ws (at + i / 64) 0 ≡ 0 → has ws at i ≡ false
+pub has_zero : (ws : List ℕ) (at i : ℕ) → get_or ws (at + i / 64) 0 ≡ 0 → has ws at i ≡ false
 unfolding has
-has-zero ws at i e = ap (λ (x : ℕ). bit x (i % 64)) e ∙ zero_bit (i % 64)
+has_zero ws at i e = ap (λ (x : ℕ). bit x (i % 64)) e ∙ zero_bit (i % 64)
 
 -- past the last word a set has nothing
 pub has_past : (ws : List ℕ) (at i : ℕ) → length ws ≤ at + i / 64 → has ws at i ≡ false
-has_past ws at i h = has-zero ws at i (get_or_past ws (at + i / 64) 0 h)
+has_past ws at i h = has_zero ws at i (get_or_past ws (at + i / 64) 0 h)
 
 -- ---- one word changed
 
@@ -80,13 +80,13 @@ module _ (ws : List ℕ) (at i : ℕ) where
   unfolding with_bit
   word_with_bit k h = get_or-set_other ws (at + i / 64) k _ 0 h
 
-  pub front-with_bit : (n : ℕ) → n ≤ at + i / 64 → take n (with_bit ws at i) ≡ take n ws
+  pub front_with_bit : (n : ℕ) → n ≤ at + i / 64 → take n (with_bit ws at i) ≡ take n ws
   unfolding with_bit
-  front-with_bit n h = take-set-le n ws (at + i / 64) _ h
+  front_with_bit n h = take-set-le n ws (at + i / 64) _ h
 
-  pub behind-with_bit : (n : ℕ) → at + i / 64 < n → drop n (with_bit ws at i) ≡ drop n ws
+  pub behind_with_bit : (n : ℕ) → at + i / 64 < n → drop n (with_bit ws at i) ≡ drop n ws
   unfolding with_bit
-  behind-with_bit n h = drop-set-lt n ws (at + i / 64) _ h
+  behind_with_bit n h = drop-set-lt n ws (at + i / 64) _ h
 
   pub has-with_bit : (j : ℕ) → at + i / 64 < length ws → has (with_bit ws at i) at j ≡ (has ws at j || eqb i j)
   unfolding with_bit
@@ -101,7 +101,7 @@ module _ (ws : List ℕ) (at i : ℕ) where
   has-with_bit_other j ne h = has-with_bit j h ∙ ap (◌||◌ (has ws at j)) (ne_eqb i j ne) ∙ or-false (has ws at j)
 
   pub has-with_bit_elsewhere : (to j : ℕ) → to + j / 64 ≢ at + i / 64 → has (with_bit ws at i) to j ≡ has ws to j
-  has-with_bit_elsewhere to j ne = has-frame (with_bit ws at i) ws to j (word_with_bit (to + j / 64) ne)
+  has-with_bit_elsewhere to j ne = has_frame (with_bit ws at i) ws to j (word_with_bit (to + j / 64) ne)
 
   pub has-with_bit_apart : (to j : ℕ) → Apart at to → i < 256 → j < 256 → has (with_bit ws at i) to j ≡ has ws to j
   has-with_bit_apart to j apart hi hj = has-with_bit_elsewhere to j (omega arith)
@@ -117,13 +117,13 @@ module _ (ws : List ℕ) (at i : ℕ) where
   unfolding without_bit
   word_without_bit k h = get_or-set_other ws (at + i / 64) k _ 0 h
 
-  pub front-without_bit : (n : ℕ) → n ≤ at + i / 64 → take n (without_bit ws at i) ≡ take n ws
+  pub front_without_bit : (n : ℕ) → n ≤ at + i / 64 → take n (without_bit ws at i) ≡ take n ws
   unfolding without_bit
-  front-without_bit n h = take-set-le n ws (at + i / 64) _ h
+  front_without_bit n h = take-set-le n ws (at + i / 64) _ h
 
-  pub behind-without_bit : (n : ℕ) → at + i / 64 < n → drop n (without_bit ws at i) ≡ drop n ws
+  pub behind_without_bit : (n : ℕ) → at + i / 64 < n → drop n (without_bit ws at i) ≡ drop n ws
   unfolding without_bit
-  behind-without_bit n h = drop-set-lt n ws (at + i / 64) _ h
+  behind_without_bit n h = drop-set-lt n ws (at + i / 64) _ h
 
   pub has-without_bit : (j : ℕ) → at + i / 64 < length ws → has (without_bit ws at i) at j ≡ (has ws at j && not (eqb i j))
   unfolding without_bit
@@ -139,7 +139,7 @@ module _ (ws : List ℕ) (at i : ℕ) where
   has-without_bit_other j ne h = has-without_bit j h ∙ ap (λ e. has ws at j && not e) (ne_eqb i j ne) ∙ and_true (has ws at j)
 
   pub has-without_bit_elsewhere : (to j : ℕ) → to + j / 64 ≢ at + i / 64 → has (without_bit ws at i) to j ≡ has ws to j
-  has-without_bit_elsewhere to j ne = has-frame (without_bit ws at i) ws to j (word_without_bit (to + j / 64) ne)
+  has-without_bit_elsewhere to j ne = has_frame (without_bit ws at i) ws to j (word_without_bit (to + j / 64) ne)
 
   pub has-without_bit_apart : (to j : ℕ) → Apart at to → i < 256 → j < 256 → has (without_bit ws at i) to j ≡ has ws to j
   has-without_bit_apart to j apart hi hj = has-without_bit_elsewhere to j (omega arith)
@@ -160,20 +160,20 @@ module _ (ws : List ℕ) (at a b c d : ℕ) where
       let n3 : k ≢ at + 3 = omega arith in
       simp get_or-set_other
 
-  pub front-put_row : (n : ℕ) → n ≤ at → take n (put_row ws at a b c d) ≡ take n ws
+  pub front_put_row : (n : ℕ) → n ≤ at → take n (put_row ws at a b c d) ≡ take n ws
   unfolding put_row
-  front-put_row n h =
+  front_put_row n h =
       take-set-le n _ (at + 3) d (omega arith) ∙ take-set-le n _ (at + 2) c (omega arith)
       ∙ take-set-le n _ (at + 1) b (omega arith) ∙ take-set-le n ws at a h
 
-  pub behind-put_row : (n : ℕ) → at + 4 ≤ n → drop n (put_row ws at a b c d) ≡ drop n ws
+  pub behind_put_row : (n : ℕ) → at + 4 ≤ n → drop n (put_row ws at a b c d) ≡ drop n ws
   unfolding put_row
-  behind-put_row n h =
+  behind_put_row n h =
       drop-set-lt n _ (at + 3) d (omega arith) ∙ drop-set-lt n _ (at + 2) c (omega arith)
       ∙ drop-set-lt n _ (at + 1) b (omega arith) ∙ drop-set-lt n ws at a (omega arith)
 
   pub has-put_row_elsewhere : (to j : ℕ) → (to + j / 64 < at) ⊎ (at + 4 ≤ to + j / 64) → has (put_row ws at a b c d) to j ≡ has ws to j
-  has-put_row_elsewhere to j h = has-frame (put_row ws at a b c d) ws to j (word_put_row (to + j / 64) h)
+  has-put_row_elsewhere to j h = has_frame (put_row ws at a b c d) ws to j (word_put_row (to + j / 64) h)
 
   pub has-put_row_apart : (to j : ℕ) → Apart at to → j < 256 → has (put_row ws at a b c d) to j ≡ has ws to j
   has-put_row_apart to j apart h = has-put_row_elsewhere to j (outside apart)
@@ -221,7 +221,7 @@ empty_word ws at (suc (suc (suc zero))) fits h = put_3 ws at 0 0 0 0 fits
 empty_word ws at (suc (suc (suc (suc k)))) fits h = absurd (omega arith)
 
 pub has-empty_row : (ws : List ℕ) (at i : ℕ) → at + 4 ≤ length ws → i < 256 → has (empty_row ws at) at i ≡ false
-has-empty_row ws at i fits h = has-zero (empty_row ws at) at i (empty_word ws at (i / 64) fits (omega arith))
+has-empty_row ws at i fits h = has_zero (empty_row ws at) at i (empty_word ws at (i / 64) fits (omega arith))
 
 -- ---- a row joined with another: `union_row`, `meet_row` and `minus_row` by their op
 
@@ -236,11 +236,11 @@ module _ (op : ℕ → ℕ → ℕ) (ws : List ℕ) (to from : ℕ) where
 
   pub front_op_row : (n : ℕ) → n ≤ to → take n (op_row op ws to from) ≡ take n ws
   unfolding op_row
-  front_op_row n h = front-put_row ws to _ _ _ _ n h
+  front_op_row n h = front_put_row ws to _ _ _ _ n h
 
   pub behind_op_row : (n : ℕ) → to + 4 ≤ n → drop n (op_row op ws to from) ≡ drop n ws
   unfolding op_row
-  behind_op_row n h = behind-put_row ws to _ _ _ _ n h
+  behind_op_row n h = behind_put_row ws to _ _ _ _ n h
 
   pub has_op_row_elsewhere : (at i : ℕ) → (at + i / 64 < to) ⊎ (to + 4 ≤ at + i / 64) → has (op_row op ws to from) at i ≡ has ws at i
   unfolding op_row

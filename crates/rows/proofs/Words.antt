@@ -89,9 +89,9 @@ count_block ws at q f l =
 count_blocks : (f : ℕ → Bool) (n : ℕ) → count f (64 * (n + 1)) ≡ count f (64 * n) + count (λ k. f (64 * n + k)) 64
 count_blocks f n = ap (count f) (omega arith) ∙ count_add f (64 * n) 64
 
-pub count-row : (ws : List ℕ) (at : ℕ) → Fit ws at
+pub count_row : (ws : List ℕ) (at : ℕ) → Fit ws at
     → count (has ws at) 256 ≡ ((ones (get_or ws at 0) + ones (get_or ws (at + 1) 0)) + ones (get_or ws (at + 2) 0)) + ones (get_or ws (at + 3) 0)
-count-row ws at f =
+count_row ws at f =
     let f0 = has ws at in
     let z : ones (get_or ws (at + 0) 0) ≡ ones (get_or ws at 0) = ap (λ (x : ℕ). ones (get_or ws x 0)) (add-zero at) in
     omega (

@@ -1,5 +1,5 @@
 -- Sets of numbers as bits of 64-bit words, in a list of words. A set begins at a word; a row is a set of four words.
-use Rattle.std.specs.Prelude.{◌≡◌, ℕ, zero, suc, ◌+◌, ◌-◌, ◌/◌, ◌%◌, ◌^◌, ◌<◌, ◌≤◌, Bool, true, false, cond, ◌⊎◌, List, set, Option, MatchOption, ◌==◌, bit_and, bit_or, bit_xor, slice_index, slice_set}
+use Rattle.std.specs.Prelude.{◌≡◌, ℕ, zero, suc, ◌+◌, ◌-◌, ◌/◌, ◌%◌, ◌^◌, ◌<◌, ◌≤◌, Bool, true, false, cond, ◌⊎◌, List, Option, MatchOption, ◌==◌, bit_and, bit_or, bit_xor, slice_index, slice_set}
 
 -- bit k of the number w
 unfoldable pub bit : ℕ → ℕ → Bool

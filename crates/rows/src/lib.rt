@@ -1,5 +1,7 @@
 // Sets of small numbers as bits of 64-bit words in a lent slice.
 // A set begins at the word `at`; a row has four words, for the numbers below 256.
+#![tactic(auto)]
+
 ghost use Rattle.std.specs.Prelude.{◌≡◌, ℕ, ◌+◌, ◌*◌, ◌/◌, ◌^◌, ◌<◌, ◌≤◌, false, length, Decides};
 ghost use Rattle.rows.specs.Bits.{has, with_bit, without_bit, union_row, meet_row, minus_row, empty_row, count, Next};
 

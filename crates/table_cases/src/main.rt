@@ -1,5 +1,7 @@
 // Link tables on examples: the first fault of texts that break the form, and one value as a text and as records. What it
 // writes is held to the file stdout.
+#![tactic(auto)]
+
 use records::{EntryRecord, Header, ModuleRecord, RecordTable};
 use std::alloc::{AllocError, Global};
 use tables::fault::Cause;

@@ -1,5 +1,7 @@
 // table_speed BYTES: how long it takes to open a text of about as many bytes, and to ask it a million questions.
 // Without an argument it prints nothing.
+#![tactic(auto)]
+
 use std::alloc::{AllocError, Global};
 use std::env;
 use std::time::Instant;

@@ -6,7 +6,7 @@
 --     listed x xs      x stands in xs
 --     is o x      o is Some x
 --     place p xs      the first place in xs that passes p
-use Rattle.std.specs.Prelude.{ℕ, zero, suc, ◌+◌, Bool, true, false, cond, not, ◌&&◌, ◌||◌, List, [], ◌∷◌, ◌++◌, Some, None, Option, ◌==◌, nat_eq}
+use Rattle.std.specs.Prelude.{ℕ, zero, suc, ◌+◌, Bool, true, false, cond, ◌&&◌, ◌||◌, List, [], ◌∷◌, ◌++◌, Some, None, Option, ◌==◌, nat_eq}
 
 abbrev pub some_below : ℕ → (ℕ → Bool) → Bool
 some_below zero p = false

@@ -33,7 +33,7 @@ unfoldable pub served : View → ℕ → ℕ
 served t s = elim (alias t s) [ Some a ↦ a | None ↦ canon t s ]
 
 -- where every link names a symbol, a test for chains without an end and a function to the end say what the chains say
-pub record Chains (end_of : View → ℕ → ℕ) (has-no-end : View → ℕ → Bool) : Type 0 where
+pub record Chains (end_of : View → ℕ → ℕ) (has_no_end : View → ℕ → Bool) : Type 0 where
   -- a chain has an end, or it is endless
-  pub ending : (t : View) → LinksWithin t → (s : ℕ) → s < symbol_count t → (has-no-end t s ≡ false) ↔ ((c : ℕ) × Ends t s c)
+  pub ending : (t : View) → LinksWithin t → (s : ℕ) → s < symbol_count t → (has_no_end t s ≡ false) ↔ ((c : ℕ) × Ends t s c)
   pub last : (t : View) → LinksWithin t → (s c : ℕ) → s < symbol_count t → Ends t s c → end_of t s ≡ c

@@ -1,4 +1,6 @@
 // Link tables: what one means, the questions that every table answers, faults, and vetoes.
+#![tactic(auto)]
+
 ghost use Rattle.tables.specs.Links.{canon, endless, Chains};
 
 pub mod fault;

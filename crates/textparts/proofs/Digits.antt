@@ -150,18 +150,18 @@ name_back l at n h =
 
 -- The same as steps of a reading: what is left from `at` on is the field and what is left behind it.
 module _ {B P : Type 0} (l : List ℕ) (at : ℕ) where
-  pub number-then : (f : ℕ → Result B ℕ) (v : B) → bind (number l at) f ≡ Ok v → ((a : ℕ) → drop at l ≡ number6 a ++ drop (at + 6) l → f a ≡ Ok v → P) → P
-  number-then f v h go = let i = inverted (number l at) f v h in go i.0 (number_back l at i.0 i.1) i.2
+  pub number_then : (f : ℕ → Result B ℕ) (v : B) → bind (number l at) f ≡ Ok v → ((a : ℕ) → drop at l ≡ number6 a ++ drop (at + 6) l → f a ≡ Ok v → P) → P
+  number_then f v h go = let i = inverted (number l at) f v h in go i.0 (number_back l at i.0 i.1) i.2
 
   pub optional_then : (f : Option ℕ → Result B ℕ) (v : B) → bind (optional l at) f ≡ Ok v →
       ((a : Option ℕ) → drop at l ≡ field6 a ++ drop (at + 6) l → f a ≡ Ok v → P) → P
   optional_then f v h go = let i = inverted (optional l at) f v h in go i.0 (optional_back l at i.0 i.1) i.2
 
-  pub bit-then : (f : ℕ → Result B ℕ) (v : B) → bind (bit l at) f ≡ Ok v → ((a : ℕ) → drop at l ≡ bit6 (eqb a 1) ++ drop (at + 6) l → f a ≡ Ok v → P) → P
-  bit-then f v h go = let i = inverted (bit l at) f v h in go i.0 (bit_back l at i.0 i.1) i.2
+  pub bit_then : (f : ℕ → Result B ℕ) (v : B) → bind (bit l at) f ≡ Ok v → ((a : ℕ) → drop at l ≡ bit6 (eqb a 1) ++ drop (at + 6) l → f a ≡ Ok v → P) → P
+  bit_then f v h go = let i = inverted (bit l at) f v h in go i.0 (bit_back l at i.0 i.1) i.2
 
-  pub name-then : (f : List ℕ → Result B ℕ) (v : B) → bind (name l at) f ≡ Ok v → ((a : List ℕ) → drop at l ≡ 32 ∷ a → f a ≡ Ok v → P) → P
-  name-then f v h go = let i = inverted (name l at) f v h in go i.0 (name_back l at i.0 i.1) i.2
+  pub name_then : (f : List ℕ → Result B ℕ) (v : B) → bind (name l at) f ≡ Ok v → ((a : List ℕ) → drop at l ≡ 32 ∷ a → f a ≡ Ok v → P) → P
+  name_then f v h go = let i = inverted (name l at) f v h in go i.0 (name_back l at i.0 i.1) i.2
 
-  pub ended-then : (f : Unit {0} → Result B ℕ) (v : B) → bind (ended l at) f ≡ Ok v → (drop at l ≡ [] → f tt ≡ Ok v → P) → P
-  ended-then f v h go = let i = inverted (ended l at) f v h in go (ended_back l at i.0 i.1) i.2
+  pub ended_then : (f : Unit {0} → Result B ℕ) (v : B) → bind (ended l at) f ≡ Ok v → (drop at l ≡ [] → f tt ≡ Ok v → P) → P
+  ended_then f v h go = let i = inverted (ended l at) f v h in go (ended_back l at i.0 i.1) i.2

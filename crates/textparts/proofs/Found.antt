@@ -1,13 +1,10 @@
 -- What is read of the rows is what the table has there.
-use Rattle.std.proofs.Common.{◌≡◌, ℕ, zero, suc, List, [], ◌∷◌, map, length, Some, None, vec_items, vec_len, Option, Vec, sym, refl, ap, ◌∙◌, Bor, rules}
+use Rattle.std.proofs.Common.{◌≡◌, ℕ, List, map, length, Some, None, vec_items, vec_len, Option, Vec, sym, refl, ap, ◌∙◌, Bor, rules}
 use lib.ListN.{length-map}
 use Rattle.std.specs.List.{slice_get}
 use Rattle.std.specs.Option.{option_map}
 use Rattle.tables.proofs.Mapped.{nth_map}
 use Rattle.tables.specs.Asked.{list_of, list_in, info_of, entry_info_of, table_module, table_entry, item_at, export_at, partial_at, site_at, table_symbol}
-use Rattle.tables.specs.Value.{Export}
-use Rattle.tables.specs.declared.parts.Site.{Site}
-use Rattle.tables.specs.declared.parts.Symbol.{Symbol}
 use Rattle.tables.specs.declared.thing.Field.{Field}
 use Rattle.tables.specs.declared.thing.ModuleList.{ModuleList}
 use Rattle.tables.specs.declared.thing.ModuleList.TheVariants.{Loads, Dependencies, Resolved, References}

@@ -1,5 +1,5 @@
 -- A text that is opened is the text of its table.
-use Rattle.std.proofs.Common.{◌≡◌, ℕ, ◌+◌, Bool, true, false, cond, eqb, List, [], ◌∷◌, ◌++◌, map, length, Ok, Result, sym, refl, ap, ◌∙◌, subst, arith}
+use Rattle.std.proofs.Common.{◌≡◌, ℕ, Bool, true, false, cond, eqb, List, [], ◌∷◌, ◌++◌, map, length, Ok, Result, sym, refl, ap, ◌∙◌, subst, arith}
 use Rattle.std.proofs.lemmas.List.{append_assoc, append-nil, length-map}
 use Rattle.std.proofs.lemmas.Bool.{eqb-true}
 use Rattle.std.specs.List.{flat_map}
@@ -10,7 +10,7 @@ use Rattle.textparts.specs.Said.{number_of, export_of, name_of, site_of, symbol_
 use Rattle.written.specs.Written.{number6, field6, bit6, line}
 use Rattle.textparts.specs.Written.{number_lines, export_text, partial_text, module_text, site_text, entry_text, symbol_text, written, OnlyText}
 use Rattle.textparts.proofs.Digits.{held, inverted}
-use Rattle.textparts.proofs.Bodies.{table_body, module_body, number_body, export_body, partial_body, entry_body, site_body, symbol_body, table_back, module_back, number-line_back, export_back, partial_back, entry_back, site_back, symbol_back}
+use Rattle.textparts.proofs.Bodies.{table_body, module_body, number_body, export_body, partial_body, entry_body, site_body, symbol_body, table_back, module_back, number_line_back, export_back, partial_back, entry_back, site_back, symbol_back}
 use Rattle.textparts.proofs.Spent.{Spent, spent_both, spent_as, one_back, many_back, times_back}
 
 -- the text of lines
@@ -88,10 +88,10 @@ module_spent p q m e =
     onward (many 80 x.1) _ (m, q) e (λ z ez e.
     spent_as p q module_texts m _
     (spent_both p h.1 z.1 _ _ (one_back 77 module_body module_back p h.1 h.0 eh)
-    (spent_both h.1 l.1 z.1 _ _ (many_numbers 76 (number-line_back 76) h.1 l.1 l.0 el)
-    (spent_both l.1 d.1 z.1 _ _ (many_numbers 68 (number-line_back 68) l.1 d.1 d.0 ed)
-    (spent_both d.1 r.1 z.1 _ _ (many_numbers 82 (number-line_back 82) d.1 r.1 r.0 er)
-    (spent_both r.1 u.1 z.1 _ _ (many_numbers 85 (number-line_back 85) r.1 u.1 u.0 eu)
+    (spent_both h.1 l.1 z.1 _ _ (many_numbers 76 (number_line_back 76) h.1 l.1 l.0 el)
+    (spent_both l.1 d.1 z.1 _ _ (many_numbers 68 (number_line_back 68) l.1 d.1 d.0 ed)
+    (spent_both d.1 r.1 z.1 _ _ (many_numbers 82 (number_line_back 82) d.1 r.1 r.0 er)
+    (spent_both r.1 u.1 z.1 _ _ (many_numbers 85 (number_line_back 85) r.1 u.1 u.0 eu)
     (spent_both u.1 x.1 z.1 _ _ (many_back 88 export_body export_back u.1 x.1 x.0 ex)
     (many_back 80 partial_body partial_back x.1 z.1 z.0 ez)))))))
     (held (record { head = h.0; loads = l.0; dependencies = d.0; resolved = r.0; references = u.0; exports = x.0; partial = z.0 }, z.1) (m, q) e))))))))
@@ -145,13 +145,13 @@ parsed_back text u e =
     (spent_both h.1 m.1 s.1 _ _ a.0 (spent_both m.1 n.1 s.1 _ _ b.0 c.0)))
     (ending_back (tree h.0 m.0 n.0 s.0) u s.1.line s.1.left s.1.whole e) a.1 b.1 c.1))))
 
-number-rows : (k : ℕ) (vs : List LineAt) → Lined (number_lines k (map number_of vs)) (numbers k vs)
-number-rows k vs = rows (λ n. line k (number6 n)) number_of (λ v. k ∷ number_body v.value) (λ v. refl) vs
+number_rows : (k : ℕ) (vs : List LineAt) → Lined (number_lines k (map number_of vs)) (numbers k vs)
+number_rows k vs = rows (λ n. line k (number6 n)) number_of (λ v. k ∷ number_body v.value) (λ v. refl) vs
 
 module_text_lem : (m : ModuleLines) → Lined (module_text (module_of m)) (module_texts m)
 module_text_lem m =
-    parts (single 77 (module_body m.head.value)) (parts (number-rows 76 m.loads) (parts (number-rows 68 m.dependencies) (parts (number-rows 82 m.resolved)
-    (parts (number-rows 85 m.references) (parts (rows export_text export_of (λ v. 88 ∷ export_body v.value) (λ v. refl) m.exports)
+    parts (single 77 (module_body m.head.value)) (parts (number_rows 76 m.loads) (parts (number_rows 68 m.dependencies) (parts (number_rows 82 m.resolved)
+    (parts (number_rows 85 m.references) (parts (rows export_text export_of (λ v. 88 ∷ export_body v.value) (λ v. refl) m.exports)
     (rows partial_text name_of (λ v. 80 ∷ partial_body v.value) (λ v. refl) m.partial))))))
 
 entry_text_lem : (e : EntryLines) → Lined (entry_text (entry_of e)) (entry_texts e)
@@ -164,9 +164,9 @@ symbol_text_lem v = single 83 (symbol_body v.value)
 abbrev head_line : LineValue → ℕ → ℕ → ℕ → List ℕ
 head_line h m e s = line 84 (number6 m ++ (number6 e ++ (number6 s ++ (field6 (optional_at h 3) ++ bit6 (eqb (number_at h 4) 1)))))
 
-head-counts : (t : TextLines) → length t.modules ≡ number_at t.head.value 0 → length t.entries ≡ number_at t.head.value 1 → length t.symbols ≡ number_at t.head.value 2 →
+head_counts : (t : TextLines) → length t.modules ≡ number_at t.head.value 0 → length t.entries ≡ number_at t.head.value 1 → length t.symbols ≡ number_at t.head.value 2 →
     Lined (head_line t.head.value (length (map module_of t.modules)) (length (map entry_of t.entries)) (length (map symbol_of t.symbols))) ((84 ∷ table_body t.head.value) ∷ [])
-head-counts t m e s = record {
+head_counts t m e s = record {
   is =
       ap (λ n. head_line t.head.value n (length (map entry_of t.entries)) (length (map symbol_of t.symbols))) (length-map t.modules module_of ∙ m)
       ∙ ap (λ n. head_line t.head.value (number_at t.head.value 0) n (length (map symbol_of t.symbols))) (length-map t.entries entry_of ∙ e)
@@ -176,7 +176,7 @@ head-counts t m e s = record {
 
 written_lined : (text : List ℕ) (t : TextLines) → Kept text t → Lined (written (table_of t)) (text_texts t)
 written_lined text t k =
-    parts (head-counts t k.modules k.entries k.symbols) (parts (blocks module_text module_of module_texts module_text_lem t.modules)
+    parts (head_counts t k.modules k.entries k.symbols) (parts (blocks module_text module_of module_texts module_text_lem t.modules)
     (parts (blocks entry_text entry_of entry_texts entry_text_lem t.entries) (blocks symbol_text symbol_of symbol_texts symbol_text_lem t.symbols)))
 
 written_back : (text : List ℕ) (t : TextLines) → Kept text t → written (table_of t) ≡ text

@@ -1,5 +1,5 @@
 -- The text of a table.
-use Rattle.std.specs.Prelude.{◌≡◌, ℕ, Bool, cond, List, [], ◌∷◌, ◌++◌, length, Some, None, Ok, Option}
+use Rattle.std.specs.Prelude.{◌≡◌, ℕ, List, ◌∷◌, ◌++◌, length, Ok}
 use Rattle.std.specs.List.{flat_map}
 use Rattle.tables.specs.Value.{Table, Module, Entry, Export}
 use Rattle.tables.specs.declared.parts.Site.{Site}

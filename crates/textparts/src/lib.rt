@@ -1,4 +1,6 @@
 // What the rows of a text say: the line of each thing, the columns of its fields, and the parts of a table.
+#![tactic(auto)]
+
 pub use column::line_column;
 pub use look::{at, line_of};
 pub use part::{entry_info, export_of, module_info, site_of, symbol_of};

@@ -1,5 +1,5 @@
 -- A text by its first line.
-use Rattle.std.proofs.Common.{◌≡◌, ℕ, zero, suc, ◌+◌, ◌-◌, ◌<◌, ◌≤◌, Bool, true, false, cond, eqb, List, [], ◌∷◌, length, get_or, take, drop, Some, None, sym, refl, ap, ◌∙◌, add-one, arith, length-drop}
+use Rattle.std.proofs.Common.{◌≡◌, ℕ, zero, suc, ◌+◌, ◌-◌, ◌<◌, Bool, true, false, cond, eqb, List, [], ◌∷◌, length, get_or, take, drop, Some, None, sym, refl, ap, ◌∙◌, add-one, arith, length-drop}
 use Rattle.std.proofs.lemmas.Bool.{eq-eqb, ne_eqb}
 use Rattle.std.proofs.lemmas.List.{take_rest}
 use Rattle.texts.specs.Form.{grow, lines_of, finished}
@@ -52,9 +52,9 @@ cut_none t clear = record { lines = sym (lines_none t clear); whole = unfinished
 
 pub cut_at : (t : List ℕ) (n m : ℕ) → n < length t → Clear t n → get_or t n 0 ≡ 10 → m ≡ n → Cut t (Some (take m t)) (take (length t - (n + 1)) (drop (n + 1) t))
 cut_at t n m lt clear e same =
-    let rest-is = take_rest t (n + 1) ∙ ap (λ k. drop k t) (add-one n) in
+    let rest_is = take_rest t (n + 1) ∙ ap (λ k. drop k t) (add-one n) in
     record {
-      lines = sym (lines_at t n lt clear e ∙ ap (λ k. take k t ∷ lines_of (drop (suc n) t)) (sym same) ∙ ap (λ x. take m t ∷ lines_of x) (sym rest-is));
-      whole = sym (whole_at t n lt e ∙ ap finished (sym rest-is));
-      shorter = omega (arith, ap length rest-is, length-drop (suc n) t);
+      lines = sym (lines_at t n lt clear e ∙ ap (λ k. take k t ∷ lines_of (drop (suc n) t)) (sym same) ∙ ap (λ x. take m t ∷ lines_of x) (sym rest_is));
+      whole = sym (whole_at t n lt e ∙ ap finished (sym rest_is));
+      shorter = omega (arith, ap length rest_is, length-drop (suc n) t);
     }

@@ -27,20 +27,20 @@ pushed_added olds (Ok a) rest = pushed_before olds a.0 (rest a.1)
 pushed_added olds (Err p) rest = refl
 
 -- a row that is pushed, or refused for want of memory
-pub added-row : {A B U : Type 0} (f : A → B) (olds news : List A) (x : A) (v : Result U Unreadable) (s : Step B) (q : At) →
+pub added_row : {A B U : Type 0} (f : A → B) (olds news : List A) (x : A) (v : Result U Unreadable) (s : Step B) (q : At) →
     Grown olds x news v → s ≡ Ok (f x, q) → Exactly (λ _. map f news) v q (added (map f olds) s)
-added-row f olds news x (Ok u) s q g h = ap (added (map f olds)) h ∙ ap (λ l. Ok (l, q)) (sym (ap (map f) g ∙ map_push f olds x))
-added-row f olds news x (Err Memory) s q g h = tt
-added-row f olds news x (Err (Form p)) s q g h = absurd (let z : ◌≡◌ {A = ℕ} 0 1 = cc in omega arith)
+added_row f olds news x (Ok u) s q g h = ap (added (map f olds)) h ∙ ap (λ l. Ok (l, q)) (sym (ap (map f) g ∙ map_push f olds x))
+added_row f olds news x (Err Memory) s q g h = tt
+added_row f olds news x (Err (Form p)) s q g h = absurd (let z : ◌≡◌ {A = ℕ} 0 1 = cc in omega arith)
 
 -- how many lines are left
 abbrev left_by : {A : Type 0} → Step A → ℕ
 left_by (Ok s) = length s.1.left
 left_by (Err p) = 0
 
-left-added : {A : Type 0} (olds : List A) (s : Step A) → left_by (added olds s) ≡ left_by s
-left-added olds (Ok a) = refl
-left-added olds (Err p) = refl
+left_added : {A : Type 0} (olds : List A) (s : Step A) → left_by (added olds s) ≡ left_by s
+left_added olds (Ok a) = refl
+left_added olds (Err p) = refl
 
 -- a line that is read, and the next
 abbrev taken : Bool → ℕ → List (List ℕ) → Result LineValue ℕ → Step LineAt
@@ -96,4 +96,4 @@ module _ (k : ℕ) (p : At) (olds : List LineAt) where
   many_exit f g q t all (Form x) e inv h = sym inv ∙ one_more (Err x) e h
 
   pub one_less : (q : At) (news : List LineAt) → next_starts k p.left ≡ true → added olds (one k p) ≡ Ok (news, q) → length q.left < length p.left
-  one_less q news e h = omega (arith, less k p.whole p.line p.left e, left-added olds (one k p), ap left_by h)
+  one_less q news e h = omega (arith, less k p.whole p.line p.left e, left_added olds (one k p), ap left_by h)

@@ -1,5 +1,5 @@
 -- What the code's rows stand for.
-use Rattle.std.specs.Prelude.{◌≡◌, List, map, Ok, Err, vec_items, Result}
+use Rattle.std.specs.Prelude.{◌≡◌, map, Ok, Err, vec_items, Result}
 use Rattle.texts.specs.declared.rows.Numbered.{Numbered}
 use Rattle.texts.specs.declared.rows.ModuleRow.{ModuleRow}
 use Rattle.texts.specs.declared.rows.EntryRow.{EntryRow}

@@ -1,4 +1,6 @@
 // The text of a link table, read into rows: its lines by module and entry.
+#![tactic(auto)]
+
 pub use place::TextPlace;
 pub use rows::{EntryRow, ModuleRow, Numbered, TextRows};
 pub use text::read_text;

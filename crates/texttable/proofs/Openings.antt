@@ -13,9 +13,9 @@ use Rattle.textparts.proofs.Whole.{only_text}
 abbrev table : TextRows → Option TextPlace → TextTable
 table rows place = record { rows = rows; refused = place }
 
-pub kept-opened : (text : List ℕ) (rows : TextRows) → parsed text ≡ Ok (text_value rows) → Opened text (table rows None)
+pub kept_opened : (text : List ℕ) (rows : TextRows) → parsed text ≡ Ok (text_value rows) → Opened text (table rows None)
 unfolding meaning_of
-kept-opened text rows e = record {
+kept_opened text rows e = record {
   means = ap (λ r. meaning_in (or_empty r)) (sym e);
   refused = ap fault_of (sym e);
   says = λ _. ap (λ r. bind r (λ t. Ok (table_of t))) e;
@@ -23,9 +23,9 @@ kept-opened text rows e = record {
   empty = λ p h. absurd (let z : ◌≡◌ {A = ℕ} 0 1 = cc in omega arith);
 }
 
-pub refused-opened : (text : List ℕ) (rows : TextRows) (p : TextPlace) → parsed text ≡ Err p → text_value rows ≡ empty_lines → Opened text (table rows (Some p))
+pub refused_opened : (text : List ℕ) (rows : TextRows) (p : TextPlace) → parsed text ≡ Err p → text_value rows ≡ empty_lines → Opened text (table rows (Some p))
 unfolding meaning_of
-refused-opened text rows p e none = record {
+refused_opened text rows p e none = record {
   means = ap meaning_in none ∙ ap (λ r. meaning_in (or_empty r)) (sym e);
   refused = ap fault_of (sym e);
   says = λ h. absurd (let z : ◌≡◌ {A = ℕ} 0 1 = cc in omega arith);

@@ -1,4 +1,6 @@
 // Fields and lines as they are written.
+#![tactic(auto)]
+
 ghost use Rattle.std.specs.Prelude.{◌≡◌, IfOk};
 ghost use Rattle.written.specs.Written.{digit6, number6, field6, fields_line};
 

@@ -1,14 +1,14 @@
-use Rattle.std.proofs.Common.{◌≡◌, ◌≤◌, length, Err, ap, ◌∙◌, arith}
+use Rattle.std.proofs.Common.{◌≤◌, length, Err, ap, ◌∙◌, arith}
 use Rattle.std.proofs.lemmas.Result.{err_from_is_err_and}
 use Rattle.checknumbers.specs.Numbers.{entry_check}
 use Rattle.checkparts.specs.Lists.{entry_list}
 use Rattle.checkparts.proofs.Steps.{again, stop, end}
 use Rattle.checknumbers.proofs.check_entries.Goals as goal
 
-pub returns-in-err-check-entry : goal.returns-in-err-check-entry
-returns-in-err-check-entry g c =
-    let p = err_from_is_err_and c.from-residual.result c.from-residual.ensures.1 in
-    let told = c.in-err-check-entry.ensures in
+pub returns-in_err-check_entry : goal.returns-in_err-check_entry
+returns-in_err-check_entry g c =
+    let p = err_from_is_err_and c.from_residual.result c.from_residual.ensures.1 in
+    let told = c.in_err-check_entry.ensures in
     let a = c.args in
     record {
       answer = p.1 ∙ ap Err p.2 ∙ stop (entry_check a.modules) entry_list c.loop-e.e _ _ c.loop-e.invariant.0 c.loop-e.invariant.1 _ told.answer;
@@ -17,7 +17,7 @@ returns-in-err-check-entry g c =
 
 pub loop-e-preserved : goal.loop-e-preserved
 loop-e-preserved g c =
-    let told = c.in-ok-check-entry.ensures in
+    let told = c.in_ok-check_entry.ensures in
     let a = c.args in
     (told.kept ∙ c.loop-e.invariant.0, again (entry_check a.modules) entry_list c.loop-e.e _ _ c.loop-e.invariant.0 c.loop-e.invariant.1 told.answer)
 

@@ -1,14 +1,14 @@
-use Rattle.std.proofs.Common.{◌≡◌, ◌≤◌, length, Err, ap, ◌∙◌, arith}
+use Rattle.std.proofs.Common.{◌≤◌, length, Err, ap, ◌∙◌, arith}
 use Rattle.std.proofs.lemmas.Result.{err_from_is_err_and}
 use Rattle.checknumbers.specs.Numbers.{module_check}
 use Rattle.checkparts.specs.Lists.{module_list}
 use Rattle.checkparts.proofs.Steps.{again, stop, end}
 use Rattle.checknumbers.proofs.check_modules.Goals as goal
 
-pub returns-in-err-check-module : goal.returns-in-err-check-module
-returns-in-err-check-module g c =
-    let p = err_from_is_err_and c.from-residual.result c.from-residual.ensures.1 in
-    let told = c.in-err-check-module.ensures in
+pub returns-in_err-check_module : goal.returns-in_err-check_module
+returns-in_err-check_module g c =
+    let p = err_from_is_err_and c.from_residual.result c.from_residual.ensures.1 in
+    let told = c.in_err-check_module.ensures in
     let a = c.args in
     record {
       answer = p.1 ∙ ap Err p.2 ∙ stop (module_check a.modules a.symbols) module_list c.loop-m.m _ _ c.loop-m.invariant.0 c.loop-m.invariant.1 _ told.answer;
@@ -17,7 +17,7 @@ returns-in-err-check-module g c =
 
 pub loop-m-preserved : goal.loop-m-preserved
 loop-m-preserved g c =
-    let told = c.in-ok-check-module.ensures in
+    let told = c.in_ok-check_module.ensures in
     let a = c.args in
     (told.kept ∙ c.loop-m.invariant.0, again (module_check a.modules a.symbols) module_list c.loop-m.m _ _ c.loop-m.invariant.0 c.loop-m.invariant.1 told.answer)
 

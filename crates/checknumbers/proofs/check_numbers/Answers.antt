@@ -3,17 +3,17 @@ use Rattle.checknumbers.proofs.Parts.{numbers_end}
 use Rattle.definitions.specs.Checks.{numbers_checked}
 use Rattle.checknumbers.proofs.check_numbers.Goals as goal
 
-pub returns-in-err-check-below-if : goal.returns-in-err-check-below-if
+pub returns-in_err-check_below_if : goal.returns-in_err-check_below_if
 unfolding numbers_checked
-returns-in-err-check-below-if g c = search rules
+returns-in_err-check_below_if g c = search rules
 
 pub returns : goal.returns
 returns g c =
-    let modules = c.module-count-modules.ensures in
-    let symbols = c.symbol-count-symbols.ensures in
+    let modules = c.module_count-modules.ensures in
+    let symbols = c.symbol_count-symbols.ensures in
     let runtime = c.runtime-runtime.ensures in
-    let told = c.in-ok-check-below-if.ensures in
-    let done = c.check-parts.ensures in
+    let told = c.in_ok-check_below_if.ensures in
+    let done = c.check_parts.ensures in
     let e = runtime.kept ∙ symbols.kept ∙ modules.kept in
     record {
       answer = numbers_end (g.T.LinkTable.means c.args.table.now) _ _ _ _ _ _ e (told.kept ∙ e) modules.answer (symbols.answer ∙ ap (λ v. length v.table.symbols) modules.kept)

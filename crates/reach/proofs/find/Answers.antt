@@ -1,5 +1,5 @@
 use Rattle.std.proofs.Common.{◌+◌, set, sym, ap, ◌∙◌, arith}
-use Rattle.reach.proofs.Parts.{marked_is, found_was, found_new, frame_none, frame-new}
+use Rattle.reach.proofs.Parts.{marked_is, found_was, found_new, frame_none, frame_new}
 use Rattle.reach.proofs.find.Goals as goal
 
 pub returns-then-test : goal.returns-then-test
@@ -16,17 +16,17 @@ returns c =
     let new = sym c.if-test.ensures in
     record {
       found = found_new ws p c.args.w c.requires.spot c.args.tail _ written new;
-      frame = λ n small room. frame-new ws p c.args.w c.requires.spot c.args.tail _ written n small (room (marked_is ws p c.args.w c.requires.spot ∙ new));
+      frame = λ n small room. frame_new ws p c.args.w c.requires.spot c.args.tail _ written n small (room (marked_is ws p c.args.w c.requires.spot ∙ new));
     }
 
-pub overflow-add-words : goal.overflow-add-words
-overflow-add-words c = let room = c.requires.room (marked_is _ _ _ c.requires.spot ∙ sym c.if-test.ensures) in omega arith
+pub overflow_add-words : goal.overflow_add-words
+overflow_add-words c = let room = c.requires.room (marked_is _ _ _ c.requires.spot ∙ sym c.if-test.ensures) in omega arith
 
-pub offset-bounds-words-places : goal.offset-bounds-words-places
-offset-bounds-words-places c = let room = c.requires.room (marked_is _ _ _ c.requires.spot ∙ sym c.if-test.ensures) in omega arith
+pub offset_bounds-words-places : goal.offset_bounds-words-places
+offset_bounds-words-places c = let room = c.requires.room (marked_is _ _ _ c.requires.spot ∙ sym c.if-test.ensures) in omega arith
 
 pub bounds-words-places : goal.bounds-words-places
 bounds-words-places c = let room = c.requires.room (marked_is _ _ _ c.requires.spot ∙ sym c.if-test.ensures) in omega arith
 
-pub overflow-add-result : goal.overflow-add-result
-overflow-add-result c = let room = c.requires.room (marked_is _ _ _ c.requires.spot ∙ sym c.if-test.ensures) in omega arith
+pub overflow_add-result : goal.overflow_add-result
+overflow_add-result c = let room = c.requires.room (marked_is _ _ _ c.requires.spot ∙ sym c.if-test.ensures) in omega arith

@@ -21,7 +21,7 @@ visit-tail-requires g c =
     let d = walk_asks c.args.places _ c.args.words.now c.args.start c.requires.ready c.requires.closed
     c.find-tail.new.words c.find-tail.result c.find-tail.auto.words c.find-tail.ensures.found c.find-tail.ensures.frame
     _ (ap at l.invariant.1) l.words l.head l.tail (omega arith) l.invariant.0 c.loop-head-test.true in
-    ((refl, tt), (d.0, d.1))
+    λ _. ((refl, tt), (d.0, d.1))
 
 pub loop-head-preserved : goal.loop-head-preserved
 loop-head-preserved g c =

@@ -1,5 +1,5 @@
 use Rattle.std.proofs.Common.{refl, ap, ◌∙◌}
-use Rattle.reach.proofs.Visits.{slots_begin, slots_end, slot_asks, slot_spot, slot-room, slot_done, slot_less}
+use Rattle.reach.proofs.Visits.{slots_begin, slots_end, slot_asks, slot_spot, slot_room, slot_done, slot_less}
 use Rattle.reach.proofs.visit.Goals as goal
 
 pub loop-slot-init : goal.loop-slot-init
@@ -9,7 +9,7 @@ pub next-requires : goal.next-requires
 next-requires g c =
     let l = c.loop-slot in
     let at = g.G.Graph.shape c.args.graph.now in
-    ((refl, tt), slot_asks _ _ _ _ _ c.requires.ready _ (ap at l.invariant.1) _ _ _ l.auto.words l.invariant.0)
+    λ _. ((refl, tt), slot_asks _ _ _ _ _ c.requires.ready _ (ap at l.invariant.1) _ _ _ l.auto.words l.invariant.0)
 
 pub find-end-requires : goal.find-end-requires
 find-end-requires g c =
@@ -17,7 +17,7 @@ find-end-requires g c =
     let at = g.G.Graph.shape c.args.graph.now in
     record {
       spot = slot_spot _ _ _ _ _ c.requires.ready _ (ap at l.invariant.1) _ _ _ l.auto.words l.invariant.0 c.in-Some.slot c.in-Some.ensures.answer;
-      room = slot-room _ _ _ _ _ c.requires.ready _ (ap at l.invariant.1) _ _ _ l.auto.words l.invariant.0 c.in-Some.slot c.in-Some.ensures.answer;
+      room = slot_room _ _ _ _ _ c.requires.ready _ (ap at l.invariant.1) _ _ _ l.auto.words l.invariant.0 c.in-Some.slot c.in-Some.ensures.answer;
     }
 
 pub loop-slot-smaller : goal.loop-slot-smaller
@@ -39,6 +39,6 @@ pub returns : goal.returns
 returns g c =
     let l = c.loop-slot in
     let at = g.G.Graph.shape c.args.graph.now in
-    let told = c.in-default.ensures in
+    let told = c.in_default.ensures in
     let d = slots_end _ _ _ _ _ c.requires.ready _ (ap at l.invariant.1) _ _ _ l.auto.words l.invariant.0 told.answer in
     record { few = d.0; full = d.1; goes = d.2; frame = d.3; kept = told.kept ∙ l.invariant.1 }

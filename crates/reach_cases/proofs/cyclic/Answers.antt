@@ -3,6 +3,6 @@ use Rattle.graphs.specs.Tests.{test_shape}
 use Rattle.graphs.proofs.Marks.{row_room}
 use Rattle.reach_cases.proofs.cyclic.Goals as goal
 
-pub has-cycle-requires : goal.has-cycle-requires
+pub has_cycle-requires : goal.has_cycle-requires
 unfolding test_shape
-has-cycle-requires c = ((refl, tt), (refl, (omega arith, row_room 28 32 5 _ (omega arith) (omega arith) (omega arith))))
+has_cycle-requires c = λ _. ((refl, tt), (refl, (omega arith, row_room 28 32 5 _ (omega arith) (omega arith) (omega arith))))

@@ -4,8 +4,8 @@ use Rattle.records.specs.Records.{module_of}
 use Rattle.tables.proofs.Mapped.{nth_map_read}
 use Rattle.records.proofs.items.Goals as goal
 
-pub returns-in-default : goal.returns-in-default
-returns-in-default c = sym (ap (list_of (list_in c.args.list)) (nth_map_read module_of c.args.t.now.modules.now c.args.m _ c.in-default.ensures))
+pub returns-in_default : goal.returns-in_default
+returns-in_default c = sym (ap (list_of (list_in c.args.list)) (nth_map_read module_of c.args.t.now.modules.now c.args.m _ c.in_default.ensures))
 
 pub returns : goal.returns
-returns c = c.list-in.ensures ∙ sym (ap (list_of (list_in c.args.list)) (nth_map_read module_of c.args.t.now.modules.now c.args.m _ c.in-Some.ensures))
+returns c = c.list_in.ensures ∙ sym (ap (list_of (list_in c.args.list)) (nth_map_read module_of c.args.t.now.modules.now c.args.m _ c.in-Some.ensures))

@@ -4,8 +4,8 @@ use Rattle.records.specs.Records.{entry_of}
 use Rattle.tables.proofs.Mapped.{nth_map_read}
 use Rattle.records.proofs.sites.Goals as goal
 
-pub returns-in-default : goal.returns-in-default
-returns-in-default c = sym (ap (list_of (λ x. x.sites)) (nth_map_read entry_of c.args.t.now.entries.now c.args.e _ c.in-default.ensures))
+pub returns-in_default : goal.returns-in_default
+returns-in_default c = sym (ap (list_of (λ x. x.sites)) (nth_map_read entry_of c.args.t.now.entries.now c.args.e _ c.in_default.ensures))
 
 pub returns : goal.returns
 returns c = sym (ap (list_of (λ x. x.sites)) (nth_map_read entry_of c.args.t.now.entries.now c.args.e _ c.in-Some.ensures))

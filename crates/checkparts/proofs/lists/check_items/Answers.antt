@@ -1,14 +1,14 @@
-use Rattle.std.proofs.Common.{◌≡◌, ◌≤◌, length, Err, ap, ◌∙◌, arith}
+use Rattle.std.proofs.Common.{◌≤◌, length, Err, ap, ◌∙◌, arith}
 use Rattle.std.proofs.lemmas.Result.{err_from_is_err_and}
 use Rattle.checkparts.specs.Items.{item_check}
 use Rattle.checkparts.specs.Lists.{item_list}
 use Rattle.checkparts.proofs.Steps.{again, stop, end}
 use Rattle.checkparts.proofs.lists.check_items.Goals as goal
 
-pub returns-in-err-check-item : goal.returns-in-err-check-item
-returns-in-err-check-item g c =
-    let p = err_from_is_err_and c.from-residual.result c.from-residual.ensures.1 in
-    let told = c.in-err-check-item.ensures in
+pub returns-in_err-check_item : goal.returns-in_err-check_item
+returns-in_err-check_item g c =
+    let p = err_from_is_err_and c.from_residual.result c.from_residual.ensures.1 in
+    let told = c.in_err-check_item.ensures in
     let a = c.args in
     record {
       answer = p.1 ∙ ap Err p.2 ∙ stop (item_check a.n a.list a.m) (item_list a.list a.m) c.loop-i.i _ _ c.loop-i.invariant.0 c.loop-i.invariant.1 _ told.answer;
@@ -17,7 +17,7 @@ returns-in-err-check-item g c =
 
 pub loop-i-preserved : goal.loop-i-preserved
 loop-i-preserved g c =
-    let told = c.in-ok-check-item.ensures in
+    let told = c.in_ok-check_item.ensures in
     let a = c.args in
     (told.kept ∙ c.loop-i.invariant.0, again (item_check a.n a.list a.m) (item_list a.list a.m) c.loop-i.i _ _ c.loop-i.invariant.0 c.loop-i.invariant.1 told.answer)
 

@@ -1,14 +1,14 @@
-use Rattle.std.proofs.Common.{◌≡◌, ◌≤◌, length, Err, ap, ◌∙◌, arith}
+use Rattle.std.proofs.Common.{◌≤◌, length, Err, ap, ◌∙◌, arith}
 use Rattle.std.proofs.lemmas.Result.{err_from_is_err_and}
 use Rattle.checks.specs.Named.{name_check}
 use Rattle.checkparts.specs.Lists.{export_list}
 use Rattle.checkparts.proofs.Steps.{again, stop, end}
 use Rattle.checks.proofs.names.check_module_names.Goals as goal
 
-pub returns-in-err-check-name : goal.returns-in-err-check-name
-returns-in-err-check-name g c =
-    let p = err_from_is_err_and c.from-residual.result c.from-residual.ensures.1 in
-    let told = c.in-err-check-name.ensures in
+pub returns-in_err-check_name : goal.returns-in_err-check_name
+returns-in_err-check_name g c =
+    let p = err_from_is_err_and c.from_residual.result c.from_residual.ensures.1 in
+    let told = c.in_err-check_name.ensures in
     let a = c.args in
     record {
       answer = p.1 ∙ ap Err p.2 ∙ stop (name_check a.m) (export_list a.m) c.loop-i.i _ _ c.loop-i.invariant.0 c.loop-i.invariant.1 _ told.answer;
@@ -17,7 +17,7 @@ returns-in-err-check-name g c =
 
 pub loop-i-preserved : goal.loop-i-preserved
 loop-i-preserved g c =
-    let told = c.in-ok-check-name.ensures in
+    let told = c.in_ok-check_name.ensures in
     let a = c.args in
     (told.kept ∙ c.loop-i.invariant.0, again (name_check a.m) (export_list a.m) c.loop-i.i _ _ c.loop-i.invariant.0 c.loop-i.invariant.1 told.answer)
 

@@ -1,14 +1,14 @@
-use Rattle.std.proofs.Common.{◌≡◌, ◌≤◌, length, Err, ap, ◌∙◌, arith}
+use Rattle.std.proofs.Common.{◌≤◌, length, Err, ap, ◌∙◌, arith}
 use Rattle.std.proofs.lemmas.Result.{err_from_is_err_and}
 use Rattle.checks.specs.Named.{names_check}
 use Rattle.checkparts.specs.Lists.{module_list}
 use Rattle.checkparts.proofs.Steps.{again, stop, end}
 use Rattle.checks.proofs.names.check_modules_names.Goals as goal
 
-pub returns-in-err-check-names-at : goal.returns-in-err-check-names-at
-returns-in-err-check-names-at g c =
-    let p = err_from_is_err_and c.from-residual.result c.from-residual.ensures.1 in
-    let told = c.in-err-check-names-at.ensures in
+pub returns-in_err-check_names_at : goal.returns-in_err-check_names_at
+returns-in_err-check_names_at g c =
+    let p = err_from_is_err_and c.from_residual.result c.from_residual.ensures.1 in
+    let told = c.in_err-check_names_at.ensures in
     record {
       answer = p.1 ∙ ap Err p.2 ∙ stop names_check module_list c.loop-m.m _ _ c.loop-m.invariant.0 c.loop-m.invariant.1 _ told.answer;
       kept = told.kept ∙ c.loop-m.invariant.0;
@@ -16,7 +16,7 @@ returns-in-err-check-names-at g c =
 
 pub loop-m-preserved : goal.loop-m-preserved
 loop-m-preserved g c =
-    let told = c.in-ok-check-names-at.ensures in
+    let told = c.in_ok-check_names_at.ensures in
     (told.kept ∙ c.loop-m.invariant.0, again names_check module_list c.loop-m.m _ _ c.loop-m.invariant.0 c.loop-m.invariant.1 told.answer)
 
 pub returns : goal.returns

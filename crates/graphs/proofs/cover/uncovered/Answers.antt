@@ -8,8 +8,8 @@ erase-requires c = let a = c.requires.marks_before in let b = c.requires.queue_w
 pub loop-i-init : goal.loop-i-init
 loop-i-init c = cover_begins _ _ _ _ _ _ c.args.graph.few _ _ c.requires c.erase.ensures c.erase.auto.words
 
-pub next-below-requires : goal.next-below-requires
-next-below-requires c =
+pub next_below-requires : goal.next_below-requires
+next_below-requires c =
     let l = c.loop-i in
     cover_asks _ _ _ _ _ _ c.args.graph.few _ _ c.requires c.erase.ensures c.erase.auto.words _ _ l.auto.words l.invariant
 
@@ -18,7 +18,7 @@ reach-requires c =
     let l = c.loop-i in
     let d = cover_ready _ _ _ _ _ _ c.args.graph.few _ _ c.requires c.erase.ensures c.erase.auto.words _ _ l.auto.words l.invariant
     c.in-Some.i c.in-Some.ensures in
-    ((refl, tt), (d.0, d.1))
+    λ _. ((refl, tt), (d.0, d.1))
 
 pub loop-i-smaller : goal.loop-i-smaller
 loop-i-smaller c =
@@ -37,6 +37,6 @@ pub returns : goal.returns
 returns c =
     let l = c.loop-i in
     record {
-      led = cover_led _ _ _ _ _ _ c.args.graph.few _ _ c.requires c.erase.ensures c.erase.auto.words _ _ l.auto.words l.invariant c.in-default.ensures;
-      outside = cover_outside _ _ _ _ _ _ c.args.graph.few _ _ c.requires c.erase.ensures c.erase.auto.words _ _ l.auto.words l.invariant c.in-default.ensures;
+      led = cover_led _ _ _ _ _ _ c.args.graph.few _ _ c.requires c.erase.ensures c.erase.auto.words _ _ l.auto.words l.invariant c.in_default.ensures;
+      outside = cover_outside _ _ _ _ _ _ c.args.graph.few _ _ c.requires c.erase.ensures c.erase.auto.words _ _ l.auto.words l.invariant c.in_default.ensures;
     }

@@ -1,25 +1,25 @@
 use Rattle.std.proofs.Common.{ℕ, ◌<◌, refl, ap, ◌∙◌, arith, below_more}
 use Rattle.std.proofs.lemmas.Bool.{both_ways, false≢true}
-use Rattle.graphs.proofs.Backs.{no_cycle, node_ready, back_there, back_here, scratch-on}
+use Rattle.graphs.proofs.Backs.{no_cycle, node_ready, back_there, back_here, scratch_on}
 use Rattle.graphs.proofs.cycles.has_cycle.Goals as goal
 
-pub on-cycle-requires : goal.on-cycle-requires
-on-cycle-requires g c =
+pub on_cycle-requires : goal.on_cycle-requires
+on_cycle-requires g c =
     let at = g.G.Graph.shape c.args.graph.now in
     let l = c.loop-v in
-    ((refl, tt), node_ready c.args.places c.args.nodes _ _ (ap at l.invariant.2) c.args.words.now l.words l.v c.requires.nodes c.requires.limit c.requires.room l.auto.words l.invariant.1 c.loop-v-test.true)
+    λ _. ((refl, tt), node_ready c.args.places c.args.nodes _ _ (ap at l.invariant.2) c.args.words.now l.words l.v c.requires.nodes c.requires.limit c.requires.room l.auto.words l.invariant.1 c.loop-v-test.true)
 
-pub returns-then-on-cycle : goal.returns-then-on-cycle
-returns-then-on-cycle g c =
+pub returns-then-on_cycle : goal.returns-then-on_cycle
+returns-then-on_cycle g c =
     let at = g.G.Graph.shape c.args.graph.now in
     let l = c.loop-v in
-    let o = c.on-cycle.ensures in
+    let o = c.on_cycle.ensures in
     record {
       answer = (
-        λ _. (l.v, back_there c.args.places c.args.nodes _ _ (ap at l.invariant.2) c.args.words.now l.words l.v c.requires.nodes c.requires.limit c.requires.room l.auto.words l.invariant.1 (o.answer.0 c.if-on-cycle.true)),
+        λ _. (l.v, back_there c.args.places c.args.nodes _ _ (ap at l.invariant.2) c.args.words.now l.words l.v c.requires.nodes c.requires.limit c.requires.room l.auto.words l.invariant.1 (o.answer.0 c.if-on_cycle.true)),
         λ _. refl,
       );
-      scratch = scratch-on c.args.places c.args.nodes _ _ (ap at l.invariant.2) c.args.words.now l.words l.v c.requires.nodes c.requires.limit c.requires.room l.auto.words l.invariant.1 _ o.scratch;
+      scratch = scratch_on c.args.places c.args.nodes _ _ (ap at l.invariant.2) c.args.words.now l.words l.v c.requires.nodes c.requires.limit c.requires.room l.auto.words l.invariant.1 _ o.scratch;
       kept = o.kept ∙ l.invariant.2;
     }
 
@@ -27,10 +27,10 @@ pub loop-v-preserved : goal.loop-v-preserved
 loop-v-preserved g c =
     let at = g.G.Graph.shape c.args.graph.now in
     let l = c.loop-v in
-    let o = c.on-cycle.ensures in (
-      below_more _ _ l.invariant.0 (λ b. both_ways c.on-cycle.result c.if-on-cycle.false (o.answer.1 (
+    let o = c.on_cycle.ensures in (
+      below_more _ _ l.invariant.0 (λ b. both_ways c.on_cycle.result c.if-on_cycle.false (o.answer.1 (
           back_here c.args.places c.args.nodes _ _ (ap at l.invariant.2) c.args.words.now l.words l.v c.requires.nodes c.requires.limit c.requires.room l.auto.words l.invariant.1 b))),
-      scratch-on c.args.places c.args.nodes _ _ (ap at l.invariant.2) c.args.words.now l.words l.v c.requires.nodes c.requires.limit c.requires.room l.auto.words l.invariant.1 _ o.scratch,
+      scratch_on c.args.places c.args.nodes _ _ (ap at l.invariant.2) c.args.words.now l.words l.v c.requires.nodes c.requires.limit c.requires.room l.auto.words l.invariant.1 _ o.scratch,
       o.kept ∙ l.invariant.2,
     )
 

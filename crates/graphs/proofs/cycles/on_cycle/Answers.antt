@@ -5,42 +5,42 @@ use Rattle.graphs.proofs.cycles.on_cycle.Goals as goal
 
 pub loop-slot-init : goal.loop-slot-init
 loop-slot-init g c =
-    let e = c.erase-marks.ensures in
-    (back_begins _ _ _ _ _ c.requires c.erase-marks.auto.words e.below e.behind e.none, refl)
+    let e = c.erase_marks.ensures in
+    (back_begins _ _ _ _ _ c.requires c.erase_marks.auto.words e.below e.behind e.none, refl)
 
 pub next-requires : goal.next-requires
 next-requires g c =
     let at = g.G.Graph.shape c.args.graph.now in
-    let e = c.erase-marks.ensures in
+    let e = c.erase_marks.ensures in
     let l = c.loop-slot in
-    ((refl, tt), back_asks _ _ _ _ _ c.requires c.erase-marks.auto.words e.below e.behind _ (ap at l.invariant.1) _ _ l.auto.words l.invariant.0)
+    λ _. ((refl, tt), back_asks _ _ _ _ _ c.requires c.erase_marks.auto.words e.below e.behind _ (ap at l.invariant.1) _ _ l.auto.words l.invariant.0)
 
 pub reach-requires : goal.reach-requires
 reach-requires g c =
     let at = g.G.Graph.shape c.args.graph.now in
-    let e = c.erase-marks.ensures in
+    let e = c.erase_marks.ensures in
     let l = c.loop-slot in
     let told = c.in-Some.ensures in
-    let d = back_ready _ _ _ _ _ c.requires c.erase-marks.auto.words e.below e.behind _ (ap at l.invariant.1) _ _ l.auto.words l.invariant.0
+    let d = back_ready _ _ _ _ _ c.requires c.erase_marks.auto.words e.below e.behind _ (ap at l.invariant.1) _ _ l.auto.words l.invariant.0
     c.in-Some.slot told.answer _ (ap at (told.kept ∙ l.invariant.1)) in
-    ((refl, tt), (d.0, d.1))
+    λ _. ((refl, tt), (d.0, d.1))
 
 pub loop-slot-smaller : goal.loop-slot-smaller
 loop-slot-smaller g c =
     let at = g.G.Graph.shape c.args.graph.now in
-    let e = c.erase-marks.ensures in
+    let e = c.erase_marks.ensures in
     let l = c.loop-slot in
-    back_less _ _ _ _ _ c.requires c.erase-marks.auto.words e.below e.behind _ (ap at l.invariant.1) _ _ l.auto.words l.invariant.0
+    back_less _ _ _ _ _ c.requires c.erase_marks.auto.words e.below e.behind _ (ap at l.invariant.1) _ _ l.auto.words l.invariant.0
     c.in-Some.slot c.in-Some.ensures.answer
 
 pub loop-slot-preserved : goal.loop-slot-preserved
 loop-slot-preserved g c =
     let at = g.G.Graph.shape c.args.graph.now in
-    let e = c.erase-marks.ensures in
+    let e = c.erase_marks.ensures in
     let l = c.loop-slot in
     let told = c.in-Some.ensures in
     let r = c.reach.ensures in (
-      back_again _ _ _ _ _ c.requires c.erase-marks.auto.words e.below e.behind _ (ap at l.invariant.1) _ _ l.auto.words l.invariant.0
+      back_again _ _ _ _ _ c.requires c.erase_marks.auto.words e.below e.behind _ (ap at l.invariant.1) _ _ l.auto.words l.invariant.0
           c.in-Some.slot told.answer _ (ap at (told.kept ∙ l.invariant.1)) _ r.reached r.frame,
       r.kept ∙ told.kept ∙ l.invariant.1,
     )
@@ -48,18 +48,18 @@ loop-slot-preserved g c =
 pub returns : goal.returns
 returns g c =
     let at = g.G.Graph.shape c.args.graph.now in
-    let e = c.erase-marks.ensures in
+    let e = c.erase_marks.ensures in
     let l = c.loop-slot in
-    let told = c.in-default.ensures in
-    let d = back_ends _ _ _ _ _ c.requires c.erase-marks.auto.words e.below e.behind _ (ap at l.invariant.1) _ _ l.auto.words l.invariant.0
+    let told = c.in_default.ensures in
+    let d = back_ends _ _ _ _ _ c.requires c.erase_marks.auto.words e.below e.behind _ (ap at l.invariant.1) _ _ l.auto.words l.invariant.0
     told.answer c.test.result c.test.ensures in
     record { answer = d.0; scratch = d.1; kept = told.kept ∙ l.invariant.1 }
 
-pub overflow-mul-places : goal.overflow-mul-places
-overflow-mul-places g c = let s = spot c.args.places _ c.args.v _ c.requires.room c.requires.node in let small = s.small in omega arith
+pub overflow_mul-places : goal.overflow_mul-places
+overflow_mul-places g c = let s = spot c.args.places _ c.args.v _ c.requires.room c.requires.node in let small = s.small in omega arith
 
-pub overflow-add-places : goal.overflow-add-places
-overflow-add-places g c = let s = spot c.args.places _ c.args.v _ c.requires.room c.requires.node in let small = s.small in omega arith
+pub overflow_add-places : goal.overflow_add-places
+overflow_add-places g c = let s = spot c.args.places _ c.args.v _ c.requires.room c.requires.node in let small = s.small in omega arith
 
 pub test-requires : goal.test-requires
 test-requires g c =

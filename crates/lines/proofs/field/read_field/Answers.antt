@@ -3,4 +3,4 @@ use Rattle.lines.proofs.Fields.{field_at}
 use Rattle.lines.proofs.field.read_field.Goals as goal
 
 pub returns : goal.returns
-returns c = c.read-columns.ensures ∙ field_at c.args.l.now c.args.at _ (omega arith) c.if-l-at.false
+returns c = c.read_columns.ensures ∙ field_at c.args.l.now c.args.at _ (omega arith) c.if-l-at.false

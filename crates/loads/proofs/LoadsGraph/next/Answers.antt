@@ -1,7 +1,7 @@
 use Rattle.std.proofs.Common.{◌^◌, ◌<◌, ◌≤◌, Some, None, sym, refl, ap, ◌∙◌, subst, arith}
 use Rattle.reach.specs.Shape.{NextSlot}
 use Rattle.loads.specs.Loading.{load_count, load_shape}
-use Rattle.loads.proofs.Asks.{slot-empty, slot_found, slots-empty}
+use Rattle.loads.proofs.Asks.{slot_empty, slot_found, slots_empty}
 use Rattle.loads.proofs.LoadsGraph.next.Goals as goal
 
 pub loop-i-init : goal.loop-i-init
@@ -10,17 +10,17 @@ loop-i-init g c = (λ i a b. absurd (omega arith), refl)
 pub loop-i-preserved : goal.loop-i-preserved
 loop-i-preserved g c =
     let l = c.loop-i in
-    let asked = c.usable-load.ensures in (
-      slot-empty _ _ (ap (λ k. k.table) l.invariant.1) c.args.v c.args.from l.i l.invariant.0 c.usable-load.result asked.answer c.in-default.not-Some,
+    let asked = c.usable_load.ensures in (
+      slot_empty _ _ (ap (λ k. k.table) l.invariant.1) c.args.v c.args.from l.i l.invariant.0 c.usable_load.result asked.answer c.in_default.not-Some,
       asked.kept ∙ l.invariant.1,
     )
 
 pub returns-in-Some : goal.returns-in-Some
 returns-in-Some g c =
     let l = c.loop-i in
-    let first = c.count-loads-count.ensures in
+    let first = c.count_loads-count.ensures in
     let asked = c.in-Some.ensures in
-    let count = c.count-loads-count.result in
+    let count = c.count_loads-count.result in
     let fits : count < 2 ^ 64 = omega arith in
     let after : c.args.from ≤ l.i = omega arith in
     record {
@@ -33,10 +33,10 @@ returns-in-Some g c =
 pub returns : goal.returns
 returns g c =
     let l = c.loop-i in
-    let first = c.count-loads-count.ensures in
+    let first = c.count_loads-count.ensures in
     record {
       answer = subst (λ k. NextSlot (load_shape k.table) c.args.words.now c.args.v c.args.from None) first.kept
-          (slots-empty _ c.args.words.now c.args.v c.args.from l.i c.count-loads-count.result l.invariant.0 c.loop-i-test.false
+          (slots_empty _ c.args.words.now c.args.v c.args.from l.i c.count_loads-count.result l.invariant.0 c.loop-i-test.false
           (first.answer ∙ ap (λ k. load_count k.table c.args.v) (sym first.kept)));
       kept = l.invariant.1 ∙ first.kept;
     }

@@ -5,14 +5,14 @@ use Rattle.records.specs.Records.{entry_of}
 use Rattle.tables.proofs.Mapped.{nth_map_read}
 use Rattle.records.proofs.RecordTableLinkTable.entry.Goals as goal
 
-pub returns-in-err-row : goal.returns-in-err-row
-returns-in-err-row c = record {
-  answer = c.from-residual.ensures ∙ sym (ap (option_map entry_info_of) (nth_map_read entry_of c.args.self.now.entries.now c.args.e _ c.in-err-row.ensures));
+pub returns-in_err-row : goal.returns-in_err-row
+returns-in_err-row c = record {
+  answer = c.from_residual.ensures ∙ sym (ap (option_map entry_info_of) (nth_map_read entry_of c.args.self.now.entries.now c.args.e _ c.in_err-row.ensures));
   kept = refl;
 }
 
 pub returns : goal.returns
 returns c = record {
-  answer = sym (ap (option_map entry_info_of) (nth_map_read entry_of c.args.self.now.entries.now c.args.e _ c.in-ok-row.ensures));
+  answer = sym (ap (option_map entry_info_of) (nth_map_read entry_of c.args.self.now.entries.now c.args.e _ c.in_ok-row.ensures));
   kept = refl;
 }

@@ -1,4 +1,4 @@
-use Rattle.std.proofs.Common.{sym, refl}
+use Rattle.std.proofs.Common.{refl}
 use lib.ListN.{length-map}
 use Rattle.records.proofs.RecordTableLinkTable.module_count.Goals as goal
 

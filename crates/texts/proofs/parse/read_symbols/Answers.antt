@@ -9,15 +9,15 @@ use Rattle.texts.proofs.parse.read_symbols.Goals as goal
 
 pub loop-preserved : goal.loop-preserved
 loop-preserved c =
-    times_again (one 83) c.args.n c.loop.counter (here c.loop.r) (here c.push-one.new.self) (map numbered_value (vec_items c.loop.rows))
-    (map numbered_value (vec_items c.push-one.new.lines)) _ c.loop-test.true c.loop.invariant c.in-ok-push-one.ensures
+    times_again (one 83) c.args.n c.loop.counter (here c.loop.r) (here c.push_one.new.self) (map numbered_value (vec_items c.loop.rows))
+    (map numbered_value (vec_items c.push_one.new.lines)) _ c.loop-test.true c.loop.invariant c.in_ok-push_one.ensures
 
-pub returns-in-err-push-one : goal.returns-in-err-push-one
-returns-in-err-push-one c =
-    let p = err_from_is_err_and c.from-residual.result c.from-residual.ensures.1 in
+pub returns-in_err-push_one : goal.returns-in_err-push_one
+returns-in_err-push_one c =
+    let p = err_from_is_err_and c.from_residual.result c.from_residual.ensures.1 in
     rw (p.1, p.2)
-    (times_exit (one 83) {U = Unit {0}} (λ _. map numbered_value (vec_items c.push-one.new.lines)) (λ w. map numbered_value (vec_items {Z = Global} w)) c.args.n c.loop.counter (here c.loop.r) (here c.push-one.new.self) _
-    (map numbered_value (vec_items c.loop.rows)) _ _ c.loop-test.true c.loop.invariant c.in-err-push-one.ensures)
+    (times_exit (one 83) {U = Unit {0}} (λ _. map numbered_value (vec_items c.push_one.new.lines)) (λ w. map numbered_value (vec_items {Z = Global} w)) c.args.n c.loop.counter (here c.loop.r) (here c.push_one.new.self) _
+    (map numbered_value (vec_items c.loop.rows)) _ _ c.loop-test.true c.loop.invariant c.in_err-push_one.ensures)
 
 pub returns : goal.returns
 returns c = times_stop (one 83) c.args.n c.loop.counter (here c.loop.r) (map numbered_value (vec_items c.loop.rows)) _ c.loop-test.false c.loop.invariant

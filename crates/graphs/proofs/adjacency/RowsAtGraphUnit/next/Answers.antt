@@ -3,13 +3,13 @@ use Rattle.graphs.specs.Tests.{test_shape}
 use Rattle.graphs.proofs.Edges.{row_next}
 use Rattle.graphs.proofs.adjacency.RowsAtGraphUnit.next.Goals as goal
 
-pub overflow-mul-v : goal.overflow-mul-v
+pub overflow_mul-v : goal.overflow_mul-v
 unfolding test_shape
-overflow-mul-v c = omega arith
+overflow_mul-v c = omega arith
 
-pub overflow-add-self : goal.overflow-add-self
+pub overflow_add-self : goal.overflow_add-self
 unfolding test_shape
-overflow-add-self c = omega arith
+overflow_add-self c = omega arith
 
 pub filled-requires : goal.filled-requires
 unfolding test_shape

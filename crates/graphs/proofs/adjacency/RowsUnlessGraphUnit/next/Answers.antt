@@ -13,13 +13,13 @@ returns-then-test c =
     let self = c.args.self.now in
     record { answer = unless_stops self.at self.nodes self.barred self.few c.args.words.now c.args.v c.args.from c.requires.1 (sym c.if-test.ensures); kept = refl }
 
-pub overflow-mul-v : goal.overflow-mul-v
+pub overflow_mul-v : goal.overflow_mul-v
 unfolding test_shape
-overflow-mul-v c = omega arith
+overflow_mul-v c = omega arith
 
-pub overflow-add-self : goal.overflow-add-self
+pub overflow_add-self : goal.overflow_add-self
 unfolding test_shape
-overflow-add-self c = omega arith
+overflow_add-self c = omega arith
 
 pub filled-requires : goal.filled-requires
 unfolding test_shape

@@ -4,12 +4,12 @@ use Rattle.texttable.specs.Texts.{meaning_of}
 use Rattle.textparts.proofs.Found.{row_there, entry_answer}
 use Rattle.texttable.proofs.table.TextTableLinkTable.entry.Goals as goal
 
-pub returns-in-err-row : goal.returns-in-err-row
+pub returns-in_err-row : goal.returns-in_err-row
 unfolding meaning_of
-returns-in-err-row c = record {
+returns-in_err-row c = record {
   answer =
-      c.from-residual.ensures
-      ∙ entry_answer (text_value c.args.self.now.rows) c.args.e _ (row_there entry_value _ _ _ _ c.as-slice.ensures.value c.in-err-row.ensures);
+      c.from_residual.ensures
+      ∙ entry_answer (text_value c.args.self.now.rows) c.args.e _ (row_there entry_value _ _ _ _ c.as_slice.ensures.value c.in_err-row.ensures);
   kept = refl;
 }
 
@@ -17,7 +17,7 @@ pub returns : goal.returns
 unfolding meaning_of
 returns c = record {
   answer =
-      ap Some c.entry-info.ensures
-      ∙ entry_answer (text_value c.args.self.now.rows) c.args.e _ (row_there entry_value _ _ _ _ c.as-slice.ensures.value c.in-ok-row.ensures);
+      ap Some c.entry_info.ensures
+      ∙ entry_answer (text_value c.args.self.now.rows) c.args.e _ (row_there entry_value _ _ _ _ c.as_slice.ensures.value c.in_ok-row.ensures);
   kept = refl;
 }

@@ -5,10 +5,10 @@ use Rattle.texttable.specs.Texts.{meaning_of}
 use Rattle.textparts.proofs.Found.{place_answer}
 use Rattle.texttable.proofs.table.TextTableLinkTable.place_of.Goals as goal
 
-pub returns-in-err-n : goal.returns-in-err-n
+pub returns-in_err-n : goal.returns-in_err-n
 unfolding meaning_of
-returns-in-err-n c = record {
-  answer = c.from-residual.ensures ∙ place_answer (text_value c.args.self.now.rows) c.args.thing c.args.field _ c.in-err-n.ensures;
+returns-in_err-n c = record {
+  answer = c.from_residual.ensures ∙ place_answer (text_value c.args.self.now.rows) c.args.thing c.args.field _ c.in_err-n.ensures;
   kept = refl;
 }
 
@@ -16,7 +16,7 @@ pub returns : goal.returns
 unfolding meaning_of
 returns c = record {
   answer =
-      ap (λ x. Some (place c.in-ok-n.n.now.number x)) c.line-column.ensures
-      ∙ place_answer (text_value c.args.self.now.rows) c.args.thing c.args.field _ c.in-ok-n.ensures;
+      ap (λ x. Some (place c.in_ok-n.n.now.number x)) c.line_column.ensures
+      ∙ place_answer (text_value c.args.self.now.rows) c.args.thing c.args.field _ c.in_ok-n.ensures;
   kept = refl;
 }
