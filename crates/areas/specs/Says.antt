@@ -1,5 +1,5 @@
 -- What words say of a table: each part of a plan's words by the definition that it holds.
-use Rattle.std.specs.Prelude.{◌≡◌, Bool, false, not, ◌||◌, List, ℕ, ◌+◌, ◌*◌, ◌<◌, ◌≤◌, get_or}
+use Rattle.std.specs.Prelude.{◌≡◌, Bool, false, not, ◌||◌, List, ℕ, ◌+◌, ◌*◌, ◌<◌, ◌≤◌, slice_index}
 use Rattle.tables.specs.View.{View, module_count, entry_count}
 use Rattle.tables.specs.Flags.{root, dynamic}
 use Rattle.rows.specs.Bits.{has as has_bit}
@@ -18,11 +18,11 @@ pub record EmptyRows (at n : ℕ) (ws : List ℕ) : Type 0 where
 
 -- n words from `at` on are 0
 pub record ZeroWords (at n : ℕ) (ws : List ℕ) : Type 0 where
-  pub zero : (k : ℕ) → k < n → get_or ws (at + k) 0 ≡ 0
+  pub zero : (k : ℕ) → k < n → slice_index ws (at + k) ≡ 0
 
 -- a word for each module: one more than the number of its atom, and 0 where it has none
 pub record SaysNumbers (t : View) (at : ℕ) (ws : List ℕ) : Type 0 where
-  pub said : (m : ℕ) → m < module_count t → get_or ws (at + m) 0 ≡ stored (atom t m)
+  pub said : (m : ℕ) → m < module_count t → slice_index ws (at + m) ≡ stored (atom t m)
 
 -- a row for each module: the entries that it has
 pub record SaysBits (t : View) (at : ℕ) (ws : List ℕ) : Type 0 where
@@ -30,7 +30,7 @@ pub record SaysBits (t : View) (at : ℕ) (ws : List ℕ) : Type 0 where
 
 -- a word for each atom: its least module
 pub record SaysFirsts (t : View) (at : ℕ) (ws : List ℕ) : Type 0 where
-  pub said : (a : ℕ) → a < atoms t → get_or ws (at + a) 0 ≡ least_module t a
+  pub said : (a : ℕ) → a < atoms t → slice_index ws (at + a) ≡ least_module t a
 
 -- a row for each atom: the entries that it has
 pub record SaysWholes (t : View) (at : ℕ) (ws : List ℕ) : Type 0 where
@@ -45,11 +45,11 @@ pub record SaysReaches (t : View) (at : ℕ) (ws : List ℕ) : Type 0 where
 
 -- a word for each entry: one more than the number of its host, and 0 where it has none
 pub record SaysHosts (t : View) (at : ℕ) (ws : List ℕ) : Type 0 where
-  pub said : (e : ℕ) → e < entry_count t → get_or ws (at + e) 0 ≡ stored (host t e)
+  pub said : (e : ℕ) → e < entry_count t → slice_index ws (at + e) ≡ stored (host t e)
 
 -- a word for each entry: its module
 pub record SaysRoots (t : View) (at : ℕ) (ws : List ℕ) : Type 0 where
-  pub said : (e : ℕ) → e < entry_count t → get_or ws (at + e) 0 ≡ root t e
+  pub said : (e : ℕ) → e < entry_count t → slice_index ws (at + e) ≡ root t e
 
 -- a row for each atom: its trial bits
 pub record SaysTrials (t : View) (at : ℕ) (ws : List ℕ) : Type 0 where
@@ -61,7 +61,7 @@ pub record SaysImports (t : View) (at : ℕ) (ws : List ℕ) : Type 0 where
 
 -- a word for each atom: the number of its verdict but for the test for cycles
 pub record SaysPrepared (t : View) (veto : Veto) (at : ℕ) (ws : List ℕ) : Type 0 where
-  pub said : (a : ℕ) → a < atoms t → get_or ws (at + a) 0 ≡ number (prepared t veto a)
+  pub said : (a : ℕ) → a < atoms t → slice_index ws (at + a) ≡ number (prepared t veto a)
 
 -- one row: the entries that are not dynamic
 pub record SaysStarts (t : View) (at : ℕ) (ws : List ℕ) : Type 0 where

@@ -1,10 +1,10 @@
 // caqespi FILE: checks the text of a link table. Without FILE it reads standard input.
 #![tactic(auto)]
 
-use anyhow::anyhow;
 use console::{Answer, LONGEST, respond};
 use std::fs::File;
 use std::io::{Read, Write};
+use std::process::ExitCode;
 use std::{env, io};
 
 // Reads until the buffer is full or the input ends, and answers how many bytes there are.
@@ -46,14 +46,14 @@ fn run(rt: &HostRuntime) -> anyhow::Result<bool> {
     Ok(refused)
 }
 
-fn main(rt: HostRuntime) -> anyhow::Result<()> {
+fn main(rt: HostRuntime) -> ExitCode {
     match run(&rt) {
-        Ok(false) => Ok(()),
+        Ok(false) => ExitCode::SUCCESS,
         // the answer says why
-        Ok(true) => Err(anyhow!("the text is refused")),
+        Ok(true) => ExitCode::FAILURE,
         Err(e) => {
-            eprintln!(rt; "caqespi: the text cannot be read or answered: {e}")?;
-            Err(e)
+            let _ = eprintln!(rt; "caqespi: the text cannot be read or answered: {e}");
+            ExitCode::FAILURE
         }
     }
 }
