@@ -1,8 +1,5 @@
 -- The graph of atoms that two relations of modules give together.
-use mathlib.Core.Path.{◌≡◌, refl, ap, ◌∙◌}
-use mathlib.Core.Bool.{Bool, true, false, not, ◌&&◌, ◌||◌}
-use Prim.Native.Nat.{ℕ, zero, suc}
-use lib.Dec.{eqb}
+use Rattle.std.proofs.Common.{◌≡◌, ℕ, zero, suc, Bool, true, false, not, ◌&&◌, ◌||◌, eqb, refl, ap, ◌∙◌}
 use Rattle.tables.specs.Below.{some_below, is}
 use Rattle.tables.specs.View.{View, module_count}
 use Rattle.definitions.specs.Bits.{atom}

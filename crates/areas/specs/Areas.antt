@@ -1,6 +1,7 @@
 -- Where everything stands in the words of a plan over M modules and E entries. There is room for as many atoms as there are
 -- modules, and at most 256. The first words are the header; what is only worked with stands behind all that stays.
-use Rattle.std.specs.Prelude.{ℕ, min, ◌+◌, ◌*◌}
+use Rattle.std.specs.Prelude.{ℕ, min, ◌+◌, ◌*◌, ◌<◌, ◌≤◌}
+use Rattle.definitions.specs.Plan.{need}
 use Rattle.areas.specs.declared.Areas.{Areas}
 
 -- the words of the header: whether the plan is begun (1), how many modules, entries and atoms there are, and how many atoms
@@ -95,3 +96,23 @@ areas_of m e = record {
   imports = imports_at m e;
   scratch = scratch_at m e;
 }
+
+-- over m modules and e entries the parts lie one behind another, each with the room that it needs, and all within the
+-- words that a plan needs
+pub record OneBehindAnother (at : Areas) (m e : ℕ) : Type 0 where
+  pub header : decided_at < at.starts
+  pub starts : at.starts + 4 ≤ at.hosts
+  pub hosts : at.hosts + e ≤ at.roots
+  pub roots : at.roots + e ≤ at.bits
+  pub bits : at.bits + 4 * m ≤ at.numbers
+  pub numbers : at.numbers + m ≤ at.firsts
+  pub firsts : at.firsts + room m ≤ at.wholes
+  pub wholes : at.wholes + 4 * room m ≤ at.cycles
+  pub cycles : at.cycles + 4 * room m ≤ at.reaches
+  pub reaches : at.reaches + 4 * room m ≤ at.loaders
+  pub loaders : at.loaders + 4 * room m ≤ at.trials
+  pub trials : at.trials + 4 * room m ≤ at.prepared
+  pub prepared : at.prepared + room m ≤ at.verdicts
+  pub verdicts : at.verdicts + room m ≤ at.imports
+  pub imports : at.imports + 4 * e ≤ at.scratch
+  pub scratch : at.scratch ≤ need m e

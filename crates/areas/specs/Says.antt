@@ -12,56 +12,64 @@ use Rattle.definitions.specs.Prepared.{prepared}
 use Rattle.classes.specs.Numbering.{stored}
 use Rattle.classes.specs.Atoms.{least_module}
 
+-- n words from `at` on say what f gives
+pub record SaysWords (n : ℕ) (f : ℕ → ℕ) (at : ℕ) (ws : List ℕ) : Type 0 where
+  pub said : (k : ℕ) → k < n → slice_index ws (at + k) ≡ f k
+
+-- n rows from `at` on say what f gives
+pub record SaysRows (n : ℕ) (f : ℕ → ℕ → Bool) (at : ℕ) (ws : List ℕ) : Type 0 where
+  pub said : (a b : ℕ) → a < n → b < 256 → has_bit ws (at + 4 * a) b ≡ f a b
+
 -- every bit of n rows from `at` on is clear
-pub record EmptyRows (at n : ℕ) (ws : List ℕ) : Type 0 where
-  pub empty : (a b : ℕ) → a < n → b < 256 → has_bit ws (at + 4 * a) b ≡ false
+abbrev pub EmptyRows : ℕ → ℕ → List ℕ → Type 0
+EmptyRows at n ws = SaysRows n (λ _ _. false) at ws
 
 -- n words from `at` on are 0
-pub record ZeroWords (at n : ℕ) (ws : List ℕ) : Type 0 where
-  pub zero : (k : ℕ) → k < n → slice_index ws (at + k) ≡ 0
+abbrev pub ZeroWords : ℕ → ℕ → List ℕ → Type 0
+ZeroWords at n ws = SaysWords n (λ _. 0) at ws
 
 -- a word for each module: one more than the number of its atom, and 0 where it has none
-pub record SaysNumbers (t : View) (at : ℕ) (ws : List ℕ) : Type 0 where
-  pub said : (m : ℕ) → m < module_count t → slice_index ws (at + m) ≡ stored (atom t m)
+abbrev pub SaysNumbers : View → ℕ → List ℕ → Type 0
+SaysNumbers t at ws = SaysWords (module_count t) (λ m. stored (atom t m)) at ws
 
 -- a row for each module: the entries that it has
-pub record SaysBits (t : View) (at : ℕ) (ws : List ℕ) : Type 0 where
-  pub said : (m e : ℕ) → m < module_count t → e < 256 → has_bit ws (at + 4 * m) e ≡ has t m e
+abbrev pub SaysBits : View → ℕ → List ℕ → Type 0
+SaysBits t at ws = SaysRows (module_count t) (has t) at ws
 
 -- a word for each atom: its least module
-pub record SaysFirsts (t : View) (at : ℕ) (ws : List ℕ) : Type 0 where
-  pub said : (a : ℕ) → a < atoms t → slice_index ws (at + a) ≡ least_module t a
+abbrev pub SaysFirsts : View → ℕ → List ℕ → Type 0
+SaysFirsts t at ws = SaysWords (atoms t) (least_module t) at ws
 
 -- a row for each atom: the entries that it has
-pub record SaysWholes (t : View) (at : ℕ) (ws : List ℕ) : Type 0 where
-  pub said : (a e : ℕ) → a < atoms t → e < 256 → has_bit ws (at + 4 * a) e ≡ whole t a e
+abbrev pub SaysWholes : View → ℕ → List ℕ → Type 0
+SaysWholes t at ws = SaysRows (atoms t) (whole t) at ws
 
 -- a row for each atom: the atoms that an edge of the cycle graph, of the reach graph, leads to
-pub record SaysCycles (t : View) (at : ℕ) (ws : List ℕ) : Type 0 where
-  pub said : (a b : ℕ) → a < atoms t → b < 256 → has_bit ws (at + 4 * a) b ≡ cycle_graph t a b
+abbrev pub SaysCycles : View → ℕ → List ℕ → Type 0
+SaysCycles t at ws = SaysRows (atoms t) (cycle_graph t) at ws
 
-pub record SaysReaches (t : View) (at : ℕ) (ws : List ℕ) : Type 0 where
-  pub said : (a b : ℕ) → a < atoms t → b < 256 → has_bit ws (at + 4 * a) b ≡ reach_graph t a b
+abbrev pub SaysReaches : View → ℕ → List ℕ → Type 0
+SaysReaches t at ws = SaysRows (atoms t) (reach_graph t) at ws
 
 -- a word for each entry: one more than the number of its host, and 0 where it has none
-pub record SaysHosts (t : View) (at : ℕ) (ws : List ℕ) : Type 0 where
-  pub said : (e : ℕ) → e < entry_count t → slice_index ws (at + e) ≡ stored (host t e)
+abbrev pub SaysHosts : View → ℕ → List ℕ → Type 0
+SaysHosts t at ws = SaysWords (entry_count t) (λ e. stored (host t e)) at ws
 
 -- a word for each entry: its module
-pub record SaysRoots (t : View) (at : ℕ) (ws : List ℕ) : Type 0 where
-  pub said : (e : ℕ) → e < entry_count t → slice_index ws (at + e) ≡ root t e
+abbrev pub SaysRoots : View → ℕ → List ℕ → Type 0
+SaysRoots t at ws = SaysWords (entry_count t) (root t) at ws
 
 -- a row for each atom: its trial bits
-pub record SaysTrials (t : View) (at : ℕ) (ws : List ℕ) : Type 0 where
-  pub said : (a e : ℕ) → a < atoms t → e < 256 → has_bit ws (at + 4 * a) e ≡ trial t a e
+abbrev pub SaysTrials : View → ℕ → List ℕ → Type 0
+SaysTrials t at ws = SaysRows (atoms t) (trial t) at ws
 
 -- a row for each entry: the entries that it imports
-pub record SaysImports (t : View) (at : ℕ) (ws : List ℕ) : Type 0 where
-  pub said : (i e : ℕ) → i < entry_count t → e < 256 → has_bit ws (at + 4 * i) e ≡ imports t i e
+abbrev pub SaysImports : View → ℕ → List ℕ → Type 0
+SaysImports t at ws = SaysRows (entry_count t) (imports t) at ws
 
 -- a word for each atom: the number of its verdict but for the test for cycles
-pub record SaysPrepared (t : View) (veto : Veto) (at : ℕ) (ws : List ℕ) : Type 0 where
-  pub said : (a : ℕ) → a < atoms t → slice_index ws (at + a) ≡ number (prepared t veto a)
+abbrev pub SaysPrepared : View → Veto → ℕ → List ℕ → Type 0
+SaysPrepared t veto at ws = SaysWords (atoms t) (λ a. number (prepared t veto a)) at ws
 
 -- one row: the entries that are not dynamic
 pub record SaysStarts (t : View) (at : ℕ) (ws : List ℕ) : Type 0 where

@@ -1,13 +1,16 @@
 // Where everything stands in the words of a plan, and what each part says of a table.
+// All parts stand in one lent slice, each from a word of its own on, since a plan has no heap.
 #![tactic(auto)]
 
-ghost use Rattle.std.specs.Prelude.{◌≡◌, ◌≤◌};
-ghost use Rattle.areas.specs.Areas.{areas_of};
+ghost use Rattle.std.specs.Prelude.{◌≡◌};
+ghost use Rattle.areas.specs.Areas.{areas_of, OneBehindAnother};
+
+use definitions::size::Size;
 
 // The first word of each part of a plan's words: of a row of entries that are not dynamic; of a word for each entry (its
 // host, its module); of a row and a word for each module (its entries, its atom); of what there is for each atom; of a row
 // for each entry (what it imports); and of what is only worked with.
-#[derive(Clone, Copy)]
+#[derive(Clone, Copy, Debug, PartialEq, Eq)]
 pub struct Areas {
     pub starts: usize,
     pub hosts: usize,
@@ -27,28 +30,44 @@ pub struct Areas {
 }
 
 impl Areas {
-    pub fn of(modules: usize, entries: usize) -> Areas
-        requires { (modules ≤ 4096) × (entries ≤ 256) }
-        ensures { result ≡ areas_of modules entries }
+    // Each part begins behind the one before it. `of` and no `From`: the places are worked out for a size, and are not that size.
+    pub fn of(size: Size) -> Areas
+        ensures areas { result ≡ areas_of size.modules size.entries }
+        ensures apart { OneBehindAnother result size.modules size.entries }
     {
+        let Size { modules, entries } = size;
         let room = modules.min(256);
-        let firsts = 16 + 2 * entries + 5 * modules;
+        let starts = 12;
+        let hosts = starts + 4;
+        let roots = hosts + entries;
+        let bits = roots + entries;
+        let numbers = bits + 4 * modules;
+        let firsts = numbers + modules;
+        let wholes = firsts + room;
+        let cycles = wholes + 4 * room;
+        let reaches = cycles + 4 * room;
+        let loaders = reaches + 4 * room;
+        let trials = loaders + 4 * room;
+        let prepared = trials + 4 * room;
+        let verdicts = prepared + room;
+        let imports = verdicts + room;
+        let scratch = imports + 4 * entries;
         Areas {
-            starts: 12,
-            hosts: 16,
-            roots: 16 + entries,
-            bits: 16 + 2 * entries,
-            numbers: 16 + 2 * entries + 4 * modules,
+            starts,
+            hosts,
+            roots,
+            bits,
+            numbers,
             firsts,
-            wholes: firsts + room,
-            cycles: firsts + 5 * room,
-            reaches: firsts + 9 * room,
-            loaders: firsts + 13 * room,
-            trials: firsts + 17 * room,
-            prepared: firsts + 21 * room,
-            verdicts: firsts + 22 * room,
-            imports: firsts + 23 * room,
-            scratch: 16 + 6 * entries + 5 * modules + 23 * room,
+            wholes,
+            cycles,
+            reaches,
+            loaders,
+            trials,
+            prepared,
+            verdicts,
+            imports,
+            scratch,
         }
     }
 }

@@ -1,6 +1,7 @@
 -- A walk over the load graph from a usable module goes where load dependencies lead.
 use Rattle.std.proofs.Common.{◌≡◌, ℕ, ◌<◌, Bool, true, List, length, Some, None, Decides, sym, subst}
 use Rattle.std.proofs.lemmas.Bool.{cond-true}
+use Rattle.std.proofs.lemmas.Option.{cond_some}
 use Rattle.tables.specs.Value.{Table}
 use Rattle.tables.specs.View.{view, module_at}
 use Rattle.tables.specs.Flags.{root}
@@ -9,7 +10,7 @@ use Rattle.reach.specs.Shape.{Edge}
 use Rattle.definitions.specs.Bits.{usable, Leads, Has}
 use Rattle.definitions.specs.Bits as bits
 use Rattle.definitions.proofs.Bits.{usable_below}
-use Rattle.loads.specs.Loading.{if_usable_some, load_shape, view_modules}
+use Rattle.loads.specs.Loading.{load_shape, view_modules}
 use Rattle.loads.proofs.Edges.{edge_of_loads, loads_of_edge}
 use Rattle.bits.specs.Rows.{usable_root}
 
@@ -29,8 +30,8 @@ module _ (t : Table) where
   -- a walk begins at a module that there is
   pub root_inside : (e r : ℕ) → usable_root t e ≡ Some r → r < length t.modules
   root_inside e r is =
-      let q = if_usable_some (view t) (root (view t) e) r is in
-      subst (λ n. r < n) (view_modules t) (usable_below (view t) r (subst (λ x. usable (view t) x ≡ true) q.0 q.1))
+      let q = cond_some (usable (view t) (root (view t) e)) (root (view t) e) r is in
+      subst (λ n. r < n) (view_modules t) (usable_below (view t) r (subst (λ x. usable (view t) x ≡ true) q.1 q.0))
 
 module _ (t : Table) (ws : List ℕ) where
   pub leads_of_way : {a b : ℕ} → usable (view t) a ≡ true → Way (Edge (load_shape t) ws) a b → Leads (view t) a b
@@ -46,7 +47,7 @@ module _ (t : Table) (ws : List ℕ) where
       → Decides b (Way (Edge (load_shape t) ws) r m) → Decides b (Has (view t) m e)
   unfolding view
   marked_has m e r b l is d =
-      let q = if_usable_some (view t) (root (view t) e) r is in (
-        λ h. (l, leads_of_way q.1 (subst (λ x. Way (Edge (load_shape t) ws) x m) (sym q.0) (d.0 h))),
-        λ h. d.1 (subst (λ x. Way (Edge (load_shape t) ws) x m) q.0 (way_then_leads here h.1)),
+      let q = cond_some (usable (view t) (root (view t) e)) (root (view t) e) r is in (
+        λ h. (l, leads_of_way q.0 (subst (λ x. Way (Edge (load_shape t) ws) x m) (sym q.1) (d.0 h))),
+        λ h. d.1 (subst (λ x. Way (Edge (load_shape t) ws) x m) q.1 (way_then_leads here h.1)),
       )

@@ -1,2 +1,2 @@
-pub mod Parts
+mod Parts
 pub mod Within

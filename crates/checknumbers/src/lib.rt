@@ -1,14 +1,15 @@
 // Refuses numbers that name nothing, and wraps and sums of flags that are too large.
+// `kept` stands in each contract: a question may change its table, and no type says that the meaning stays.
 #![tactic(auto)]
 
-ghost use Rattle.std.specs.Prelude.{◌≡◌, length, Some};
-ghost use Rattle.tables.specs.Asked.{table_module};
-ghost use Rattle.definitions.specs.Checks.{numbers_checked};
-ghost use Rattle.checkparts.specs.Each.{all_of, one_of};
-ghost use Rattle.checknumbers.specs.Numbers.{module_check, entry_check, symbol_check};
-ghost use Rattle.checkparts.specs.Lists.{module_list, entry_list, symbol_list};
-ghost use Rattle.checknumbers.specs.Numbers.{fields_checked, lists_checked, parts_checked};
+ghost use Rattle.std.specs.Prelude.{◌≡◌, Some, Ok};
+ghost use Rattle.std.specs.List.{slice_get};
+ghost use Rattle.std.specs.Option.{option_map_or};
+ghost use Rattle.tables.specs.Asked.{table_module, table_symbol};
+ghost use Rattle.definitions.specs.Checks.{module_checked, entry_checked, symbol_checked, numbers_checked};
+ghost use Rattle.checknumbers.specs.Numbers.{fields_checked, lists_checked};
 
+use checkparts::each::{Check, check_each};
 use checkparts::faults::{check_at_most, check_below, check_below_if};
 use checkparts::lists::{check_exports, check_items, check_sites};
 use tables::fault::Fault;
@@ -28,6 +29,13 @@ const ENTRY_FLAGS: u32 = 15;
 // The largest sum of a symbol's flags.
 const SYMBOL_FLAGS: u32 = 1;
 
+// So many modules and symbols, which numbers are to name. Each check below is a type of its own around them: a check is its type.
+#[derive(Clone, Copy)]
+struct Counts {
+    modules: usize,
+    symbols: usize,
+}
+
 // The fields of module `m`.
 fn check_fields<'t, T: LinkTable<'t>>(
     table: &mut T,
@@ -35,7 +43,7 @@ fn check_fields<'t, T: LinkTable<'t>>(
     m: usize,
     info: ModuleInfo,
 ) -> Result<(), Fault<T::Place>>
-    ensures answer { result ≡ fields_checked symbols m info (T.means table.old) }
+    ensures answer { result ≡ fields_checked (T.means table.old).place symbols m info }
     ensures kept { T.means table.new ≡ T.means table.old }
 {
     let thing = Thing::Module(m);
@@ -48,15 +56,16 @@ fn check_fields<'t, T: LinkTable<'t>>(
 // The lists of module `m`.
 fn check_lists<'t, T: LinkTable<'t>>(
     table: &mut T,
-    modules: usize,
-    symbols: usize,
+    counts: Counts,
     m: usize,
     info: ModuleInfo,
 ) -> Result<(), Fault<T::Place>>
     requires { Some info ≡ table_module (T.means table.old).table m }
-    ensures answer { result ≡ lists_checked modules symbols m (T.means table.old) }
+    ensures answer { let v = T.means table.old in
+        result ≡ lists_checked v.place counts.modules counts.symbols m v.table }
     ensures kept { T.means table.new ≡ T.means table.old }
 {
+    let Counts { modules, symbols } = counts;
     check_items(table, modules, ModuleList::Loads, m, info.loads)?;
     check_items(
         table,
@@ -70,133 +79,77 @@ fn check_lists<'t, T: LinkTable<'t>>(
     check_exports(table, symbols, m, info.exports)
 }
 
-// Module `m`: its fields, then its lists.
-fn check_module<'t, T: LinkTable<'t>>(
-    table: &mut T,
-    modules: usize,
-    symbols: usize,
-    m: usize,
-) -> Result<(), Fault<T::Place>>
-    ensures answer { result ≡ one_of (module_check modules symbols) module_list (T.means table.old) m }
-    ensures kept { T.means table.new ≡ T.means table.old }
-{
-    let Some(info) = table.module(m) else {
-        return Ok(());
-    };
-    check_fields(table, symbols, m, info)?;
-    check_lists(table, modules, symbols, m, info)
-}
+// A module's numbers: those of its fields, then those of its lists.
+#[derive(Clone, Copy)]
+struct Modules(Counts);
 
-// Every module.
-fn check_modules<'t, T: LinkTable<'t>>(
-    table: &mut T,
-    modules: usize,
-    symbols: usize,
-) -> Result<(), Fault<T::Place>>
-    requires { modules ≡ length (module_list (T.means table.old)) }
-    ensures answer { result ≡ all_of (module_check modules symbols) module_list (T.means table.old) }
-    ensures kept { T.means table.new ≡ T.means table.old }
-{
-    for m in 0..modules {
-        check_module(table, modules, symbols, m)?;
+impl<'t, T: LinkTable<'t>> Check<'t, T> for Modules {
+    ghost says = { λ c v m.
+        option_map_or (module_checked v.place c.0.modules c.0.symbols m) (slice_get v.table.modules m) (Ok tt) };
+
+    fn check(&self, table: &mut T, m: usize) -> Result<(), Fault<T::Place>> {
+        let Some(info) = table.module(m) else {
+            return Ok(());
+        };
+        check_fields(table, self.0.symbols, m, info)?;
+        check_lists(table, self.0, m, info)
     }
-    Ok(())
 }
 
-// Entry `e`: its fields, then its sites.
-fn check_entry<'t, T: LinkTable<'t>>(
-    table: &mut T,
-    modules: usize,
-    e: usize,
-) -> Result<(), Fault<T::Place>>
-    ensures answer { result ≡ one_of (entry_check modules) entry_list (T.means table.old) e }
-    ensures kept { T.means table.new ≡ T.means table.old }
-{
-    let Some(info) = table.entry(e) else {
-        return Ok(());
-    };
-    let thing = Thing::Entry(e);
-    check_below(table, modules, thing, Field::Root, info.root)?;
-    check_at_most(table, ENTRY_FLAGS, thing, Field::Flags, info.flags)?;
-    check_sites(table, modules, e, info.sites)
-}
+// An entry's numbers: those of its fields, then those of its sites.
+#[derive(Clone, Copy)]
+struct Entries(Counts);
 
-// Every entry.
-fn check_entries<'t, T: LinkTable<'t>>(
-    table: &mut T,
-    modules: usize,
-    entries: usize,
-) -> Result<(), Fault<T::Place>>
-    requires { entries ≡ length (entry_list (T.means table.old)) }
-    ensures answer { result ≡ all_of (entry_check modules) entry_list (T.means table.old) }
-    ensures kept { T.means table.new ≡ T.means table.old }
-{
-    for e in 0..entries {
-        check_entry(table, modules, e)?;
+impl<'t, T: LinkTable<'t>> Check<'t, T> for Entries {
+    ghost says = { λ c v e.
+        option_map_or (entry_checked v.place c.0.modules e) (slice_get v.table.entries e) (Ok tt) };
+
+    fn check(&self, table: &mut T, e: usize) -> Result<(), Fault<T::Place>> {
+        let Some(info) = table.entry(e) else {
+            return Ok(());
+        };
+        let modules = self.0.modules;
+        let thing = Thing::Entry(e);
+        check_below(table, modules, thing, Field::Root, info.root)?;
+        check_at_most(table, ENTRY_FLAGS, thing, Field::Flags, info.flags)?;
+        check_sites(table, modules, e, info.sites)
     }
-    Ok(())
 }
 
-// Symbol `s`.
-fn check_symbol<'t, T: LinkTable<'t>>(
-    table: &mut T,
-    modules: usize,
-    symbols: usize,
-    s: usize,
-) -> Result<(), Fault<T::Place>>
-    ensures answer { result ≡ one_of (symbol_check modules symbols) symbol_list (T.means table.old) s }
-    ensures kept { T.means table.new ≡ T.means table.old }
-{
-    let Some(symbol) = table.symbol(s) else {
-        return Ok(());
-    };
-    let thing = Thing::Symbol(s);
-    check_below(table, modules, thing, Field::Owner, symbol.owner)?;
-    check_below(table, symbols, thing, Field::Link, symbol.link)?;
-    check_below_if(table, symbols, thing, Field::Alias, symbol.alias)?;
-    check_at_most(table, SYMBOL_FLAGS, thing, Field::Flags, symbol.flags)
-}
+// A symbol's numbers.
+#[derive(Clone, Copy)]
+struct Symbols(Counts);
 
-// Every symbol.
-fn check_symbols<'t, T: LinkTable<'t>>(
-    table: &mut T,
-    modules: usize,
-    symbols: usize,
-) -> Result<(), Fault<T::Place>>
-    requires { symbols ≡ length (symbol_list (T.means table.old)) }
-    ensures answer { result ≡ all_of (symbol_check modules symbols) symbol_list (T.means table.old) }
-    ensures kept { T.means table.new ≡ T.means table.old }
-{
-    for s in 0..symbols {
-        check_symbol(table, modules, symbols, s)?;
+impl<'t, T: LinkTable<'t>> Check<'t, T> for Symbols {
+    ghost says = { λ c v s.
+        option_map_or (symbol_checked v.place c.0.modules c.0.symbols s) (table_symbol v.table s) (Ok tt) };
+
+    fn check(&self, table: &mut T, s: usize) -> Result<(), Fault<T::Place>> {
+        let Some(symbol) = table.symbol(s) else {
+            return Ok(());
+        };
+        let Counts { modules, symbols } = self.0;
+        let thing = Thing::Symbol(s);
+        check_below(table, modules, thing, Field::Owner, symbol.owner)?;
+        check_below(table, symbols, thing, Field::Link, symbol.link)?;
+        check_below_if(table, symbols, thing, Field::Alias, symbol.alias)?;
+        check_at_most(table, SYMBOL_FLAGS, thing, Field::Flags, symbol.flags)
     }
-    Ok(())
-}
-
-// Every module, entry and symbol.
-fn check_parts<'t, T: LinkTable<'t>>(
-    table: &mut T,
-    modules: usize,
-    symbols: usize,
-) -> Result<(), Fault<T::Place>>
-    requires { (modules ≡ length (module_list (T.means table.old))) × (symbols ≡ length (symbol_list (T.means table.old))) }
-    ensures answer { result ≡ parts_checked modules symbols (T.means table.old) }
-    ensures kept { T.means table.new ≡ T.means table.old }
-{
-    let entries = table.entry_count();
-    check_modules(table, modules, symbols)?;
-    check_entries(table, modules, entries)?;
-    check_symbols(table, modules, symbols)
 }
 
 // Refuses the first number that names nothing, in the order runtime, modules, entries, symbols.
+#[tactic(auto, using(checkparts::proofs::Turns::each_there), unfolding(definitions::specs::Checks::numbers_checked))]
 pub fn check_numbers<'t, T: LinkTable<'t>>(table: &mut T) -> Result<(), Fault<T::Place>>
     ensures answer { result ≡ numbers_checked (T.means table.old).place (T.means table.old).table }
     ensures kept { T.means table.new ≡ T.means table.old }
 {
     let modules = table.module_count();
+    let entries = table.entry_count();
     let symbols = table.symbol_count();
     let runtime = table.runtime();
+    let counts = Counts { modules, symbols };
     check_below_if(table, modules, Thing::Header, Field::Runtime, runtime)?;
-    check_parts(table, modules, symbols)
+    check_each(table, modules, &Modules(counts))?;
+    check_each(table, entries, &Entries(counts))?;
+    check_each(table, symbols, &Symbols(counts))
 }

@@ -1,22 +1,17 @@
--- A check of each element of a list, and of one of them, over what a table means.
-use Rattle.std.specs.Prelude.{ℕ, Bool, false, List, Some, None, Ok, Option}
-use Rattle.std.specs.List.{slice_get}
-use Rattle.tables.specs.Value.{Meaning}
-use Rattle.definitions.specs.Checks.{Checked, each}
+-- Checks of so many things by number, and the check of an item.
+use Rattle.std.specs.Prelude.{ℕ, zero, suc, Ok, Option}
+use Rattle.tables.specs.declared.thing.Field.{Field}
+use Rattle.tables.specs.declared.thing.Field.TheVariants as field
+use Rattle.tables.specs.declared.thing.ModuleList.{ModuleList}
+use Rattle.tables.specs.declared.thing.Thing.{Thing}
+use Rattle.tables.specs.declared.thing.Thing.TheVariants as thing
+use Rattle.definitions.specs.Checks.{Checked, then, below}
 
--- a test of what may not be there
-abbrev pub if_some : {X : Type 0} → (X → Bool) → Option X → Bool
-if_some f None = false
-if_some f (Some x) = f x
+-- the checks of n numbers, from i on
+abbrev pub each_below : {P : Type 0} → (ℕ → Checked P) → ℕ → ℕ → Checked P
+each_below one i zero = Ok tt
+each_below one i (suc n) = then (one i) (each_below one (suc i) n)
 
--- what is not there passes
-abbrev pub if_there : {P X : Type 0} → (X → Checked P) → Option X → Checked P
-if_there f None = Ok tt
-if_there f (Some x) = f x
-
--- the element at i, if there is one
-abbrev pub one_of : {P X : Type 0} → (Meaning P → ℕ → X → Checked P) → (Meaning P → List X) → Meaning P → ℕ → Checked P
-one_of check list v i = if_there (check v i) (slice_get (list v) i)
-
-abbrev pub all_of : {P X : Type 0} → (Meaning P → ℕ → X → Checked P) → (Meaning P → List X) → Meaning P → Checked P
-all_of check list v = each (check v) 0 (list v)
+-- item i of a module's list names one of n things
+abbrev pub item_checked : {P : Type 0} → (Thing → Field → Option P) → ℕ → ModuleList → ℕ → ℕ → ℕ → Checked P
+item_checked place n l m i x = below place n (thing.Item l m i) field.Number x

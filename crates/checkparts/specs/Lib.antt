@@ -1,3 +1,1 @@
 pub mod Each
-pub mod Lists
-pub mod Items

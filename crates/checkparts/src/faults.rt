@@ -1,6 +1,7 @@
 // A fault with its place, and the checks of one number.
+// Thing and field stay two parameters: a fault and `place_of` have them as two, and a pair would only be taken apart again.
 ghost use Rattle.std.specs.Prelude.{◌≡◌};
-ghost use Rattle.definitions.specs.Checks.{fault_at, few, below, at_most, below_if};
+ghost use Rattle.definitions.specs.Checks.{fault_at, unless, few, below, at_most, below_if};
 
 use tables::fault::{Cause, Fault};
 use tables::table::LinkTable;
@@ -25,6 +26,23 @@ pub fn fault_at<'t, T: LinkTable<'t>>(
     }
 }
 
+// Refuses what does not hold, with this cause.
+pub fn check_that<'t, T: LinkTable<'t>>(
+    table: &mut T,
+    holds: bool,
+    cause: Cause,
+    thing: Thing,
+    field: Field,
+) -> Result<(), Fault<T::Place>>
+    ensures answer { result ≡ unless holds (fault_at (T.means table.old).place cause thing field) }
+    ensures kept { T.means table.new ≡ T.means table.old }
+{
+    if holds {
+        return Ok(());
+    }
+    Err(fault_at(table, cause, thing, field))
+}
+
 // Refuses a count `n` of more than `most`: the fault names `thing`, the first too many.
 pub fn check_few<'t, T: LinkTable<'t>>(
     table: &mut T,
@@ -35,10 +53,8 @@ pub fn check_few<'t, T: LinkTable<'t>>(
     ensures answer { result ≡ few (T.means table.old).place most thing n }
     ensures kept { T.means table.new ≡ T.means table.old }
 {
-    if n <= most {
-        return Ok(());
-    }
-    Err(fault_at(table, Cause::TooMany { count: n }, thing, Field::Whole))
+    let cause = Cause::TooMany { count: n };
+    check_that(table, n <= most, cause, thing, Field::Whole)
 }
 
 // Refuses a number that names none of `n` things.
@@ -52,10 +68,7 @@ pub fn check_below<'t, T: LinkTable<'t>>(
     ensures answer { result ≡ below (T.means table.old).place n thing field v }
     ensures kept { T.means table.new ≡ T.means table.old }
 {
-    if (v as usize) < n {
-        return Ok(());
-    }
-    Err(fault_at(table, Cause::NamesNothing, thing, field))
+    check_that(table, (v as usize) < n, Cause::NamesNothing, thing, field)
 }
 
 // Refuses a number over `n`, as a sum of flags may be.
@@ -69,10 +82,7 @@ pub fn check_at_most<'t, T: LinkTable<'t>>(
     ensures answer { result ≡ at_most (T.means table.old).place n thing field v }
     ensures kept { T.means table.new ≡ T.means table.old }
 {
-    if v <= n {
-        return Ok(());
-    }
-    Err(fault_at(table, Cause::NamesNothing, thing, field))
+    check_that(table, v <= n, Cause::NamesNothing, thing, field)
 }
 
 // Refuses a number that is there and names none of `n` things.

@@ -1,4 +1,3 @@
-pub mod Counting
-pub mod Scans
-pub mod Walks
+mod Counting
+mod Scans
 pub mod Within

@@ -1,95 +1,115 @@
--- Names that stand twice: the scan over the earlier exports, and the order in which they are held.
-use Rattle.std.proofs.Common.{◌≡◌, ℕ, zero, suc, ◌+◌, ◌<◌, Bool, true, false, not, ◌||◌, List, [], ◌∷◌, ◌++◌, length, take, Some, None, Decides, Option, sym, refl, ap, ◌∙◌, append_assoc, add-one, arith}
+-- Names that stand twice: the tests of the earlier exports, and the order in which these are held.
+use Rattle.std.proofs.Common.{◌≡◌, ℕ, zero, suc, ◌+◌, Bool, true, false, not, ◌&&◌, ◌||◌, eqb, List, [], ◌∷◌, ◌++◌, length, take, Some, None, Ok, Option, sym, refl, ap, ◌∙◌, append_assoc, arith}
+use Rattle.std.specs.Cmp.Lexicographic.{pointwise}
 use Rattle.std.specs.List.{slice_get}
-use Rattle.std.proofs.lemmas.Bool.{or_left, or_right, or_from, or_parts, false≢true}
-use Rattle.std.proofs.lemmas.Slice.Eq.{IsBytesEq, compares_Decides}
+use Rattle.std.specs.Option.{option_map, option_map_or}
+use Rattle.std.proofs.Math.Seq.{take-append_seam}
 use Rattle.tables.specs.Below.{some_of}
 use Rattle.tables.specs.Names.{same_name}
 use Rattle.tables.specs.Value.{Meaning, Module, Export}
-use Rattle.tables.specs.Asked.{list_of}
+use Rattle.tables.specs.Asked.{info_of, list_of, exports_of, export_at, table_module}
+use Rattle.tables.specs.declared.parts.ModuleInfo.{ModuleInfo}
 use Rattle.tables.specs.declared.fault.Cause.TheVariants.{NameTwice}
+use Rattle.tables.specs.declared.fault.Fault.{Fault}
+use Rattle.tables.specs.declared.thing.Field.{Field}
 use Rattle.tables.specs.declared.thing.Field.TheVariants as field
+use Rattle.tables.specs.declared.thing.Thing.{Thing}
 use Rattle.tables.specs.declared.thing.Thing.TheVariants as thing
 use Rattle.definitions.specs.Checks.{Checked, then, each, unless, fault_at, names_among}
-use Rattle.checkparts.specs.Each.{if_some, if_there, one_of, all_of}
-use Rattle.checks.specs.Named.{has_name, name_check, names_check}
-use Rattle.checkparts.specs.Lists.{export_list, module_list}
+use Rattle.checkparts.specs.Each.{each_below}
+use Rattle.checkparts.proofs.Turns.{each_there}
+use Rattle.checks.specs.Named.{other_name, new_name}
 
--- a test that decides what `same_name` decides is the same
-agree : {Q : Type 0} (r s : Bool) → Decides r Q → Decides s Q → r ≡ s
-agree true true e f = refl
-agree false false e f = refl
-agree true false e f = absurd (false≢true (f.1 (e.0 refl)))
-agree false true e f = absurd (false≢true (e.1 (f.0 refl)))
-
-compares : IsBytesEq same_name
+-- `==` of two names
+pub same_is : (xs ys : List ℕ) → pointwise eqb xs ys ≡ same_name xs ys
 unfolding same_name
-compares = record { empty = refl; shorter = λ y ys. refl; longer = λ x xs. refl; heads = λ x y xs ys. refl }
+same_is [] [] = refl
+same_is [] (y ∷ ys) = refl
+same_is (x ∷ xs) [] = refl
+same_is (x ∷ xs) (y ∷ ys) = ap (λ b. eqb x y && b) (same_is xs ys)
 
-pub same_told : (xs ys : List ℕ) (r : Bool) → Decides r (xs ≡ ys) → r ≡ same_name xs ys
-same_told xs ys r e = agree r (same_name xs ys) e (compares_Decides same_name compares xs ys)
+-- the checks of the elements before number i all give one fault, so they give it where one of these passes the test
+module _ {P X : Type 0} (p : X → Bool) (f : Fault P) where
+  abbrev misses : X → Checked P
+  misses y = unless (not (p y)) f
 
--- the scan
-module _ {X : Type 0} (p : X → Bool) where
-  pub take_hit : (xs : List X) (j i : ℕ) → j < i → if_some p (slice_get xs j) ≡ true → some_of p (take i xs) ≡ true
-  take_hit [] j i lt e = absurd (false≢true e)
-  take_hit (x ∷ xs) j zero lt e = absurd (omega arith)
-  take_hit (x ∷ xs) zero (suc i) lt e = or_left (p x) _ e
-  take_hit (x ∷ xs) (suc j) (suc i) lt e = or_right (p x) _ (take_hit xs j i (omega arith) e)
+  take_nil : (i : ℕ) → take {A = X} i [] ≡ []
+  take_nil zero = refl
+  take_nil (suc i) = refl
 
-  take_miss : (xs : List X) (j : ℕ) → some_of p (take j xs) ≡ false → if_some p (slice_get xs j) ≡ false → some_of p (take (suc j) xs) ≡ false
-  take_miss [] j e f = refl
-  take_miss (x ∷ xs) zero e f = or_from (p x) _ f refl
-  take_miss (x ∷ xs) (suc j) e f = let q = or_parts (p x) _ e in or_from (p x) _ q.0 (take_miss xs j q.1 f)
+  either : (b c : Bool) → then (unless (not b) f) (unless (not c) f) ≡ unless (not (b || c)) f
+  either true c = refl
+  either false c = refl
 
-  pub take_more : (xs : List X) (j : ℕ) → some_of p (take j xs) ≡ false → if_some p (slice_get xs j) ≡ false → some_of p (take (j + 1) xs) ≡ false
-  take_more xs j e f = rw add-one (take_miss xs j e f)
+  scan_from : (one : ℕ → Checked P) (k i : ℕ) (xs : List X) →
+      ((j m : ℕ) → j ≡ k + m → one j ≡ option_map_or misses (slice_get xs m) (Ok tt)) → each_below one k i ≡ unless (not (some_of p (take i xs))) f
+  scan_from one k zero xs h = refl
+  scan_from one k (suc i) [] h =
+      ap (λ r. then r (each_below one (suc k) i)) (h k 0 (omega arith)) ∙ scan_from one (suc k) i [] (λ j m e. h j (suc m) (omega arith))
+      ∙ ap (λ l. unless (not (some_of p l)) f) (take_nil i)
+  scan_from one k (suc i) (x ∷ xs) h =
+      ap (λ r. then r (each_below one (suc k) i)) (h k 0 (omega arith))
+      ∙ ap (then (misses x)) (scan_from one (suc k) i xs (λ j m e. h j (suc m) (omega arith))) ∙ either (p x) (some_of p (take i xs))
 
-  some_last : (front : List X) (x : X) → some_of p (front ++ (x ∷ [])) ≡ (p x || some_of p front)
-  some_last [] x = refl
-  some_last (y ∷ ys) x = ap (λ b. p y || b) (some_last ys x) ∙ swap (p y) (p x) (some_of p ys)
-    where
-      swap : (a b c : Bool) → (a || (b || c)) ≡ (b || (a || c))
-      swap true true c = refl
-      swap true false c = refl
-      swap false b c = refl
+  scan_told : (i : ℕ) (xs : List X) → each_below (λ j. option_map_or misses (slice_get xs j) (Ok tt)) 0 i ≡ unless (not (some_of p (take i xs))) f
+  scan_told i xs = scan_from _ 0 i xs (λ j m e. let z : j ≡ m = omega arith in ap (λ q. option_map_or misses (slice_get xs q) (Ok tt)) z)
 
-take_front : {X : Type 0} (front rest : List X) → take (length front) (front ++ rest) ≡ front
-take_front [] rest = refl
-take_front (x ∷ xs) rest = ap (λ l. x ∷ l) (take_front xs rest)
+some_last : {X : Type 0} (p : X → Bool) (front : List X) (x : X) → some_of p (front ++ (x ∷ [])) ≡ (p x || some_of p front)
+some_last p [] x = refl
+some_last p (y ∷ ys) x = ap (λ b. p y || b) (some_last p ys x) ∙ swap (p y) (p x) (some_of p ys)
+  where
+    swap : (a b c : Bool) → (a || (b || c)) ≡ (b || (a || c))
+    swap true true c = refl
+    swap true false c = refl
+    swap false b c = refl
 
 length_last : {X : Type 0} (front : List X) (x : X) → length (front ++ (x ∷ [])) ≡ suc (length front)
 length_last [] x = refl
 length_last (y ∷ ys) x = ap suc (length_last ys x)
 
 -- the check of a name among those before it, in a list that is known whole
-module _ {P : Type 0} (v : Meaning P) (m : ℕ) where
-  in_list : List Export → ℕ → Export → Checked P
-  in_list xs i x = unless (not (some_of (has_name x.name) (take i xs))) (fault_at v.place NameTwice (thing.Export m i) field.Name)
-
+module _ {P : Type 0} (place : Thing → Field → Option P) (m : ℕ) where
   among : (xs rest earlier front : List Export) → xs ≡ front ++ rest → ((p : Export → Bool) → some_of p earlier ≡ some_of p front) →
-      each (in_list xs) (length front) rest ≡ names_among v.place earlier m (length front) rest
-  unfolding in_list
+      each (new_name place xs m) (length front) rest ≡ names_among place earlier m (length front) rest
   among xs [] earlier front is same = refl
   among xs (x ∷ rest) earlier front is same =
-      ap (λ b. then (unless (not b) (fault_at v.place NameTwice (thing.Export m (length front)) field.Name)) (each (in_list xs) (suc (length front)) rest))
-      (ap (λ l. some_of (has_name x.name) (take (length front) l)) is ∙ ap (some_of (has_name x.name)) (take_front front (x ∷ rest)) ∙ sym (same (has_name x.name)))
-      ∙ ap (then (unless (not (some_of (has_name x.name) earlier)) (fault_at v.place NameTwice (thing.Export m (length front)) field.Name)))
+      ap (λ b. then (unless (not b) (fault_at place NameTwice (thing.Export m (length front)) field.Name)) (each (new_name place xs m) (suc (length front)) rest))
+      (ap (λ l. some_of has (take (length front) l)) is ∙ ap (some_of has) (take-append_seam front (x ∷ rest)) ∙ sym (same has))
+      ∙ ap (then (unless (not (some_of has earlier)) (fault_at place NameTwice (thing.Export m (length front)) field.Name)))
       (rw length_last at (among xs rest (x ∷ earlier) (front ++ (x ∷ [])) longer last))
     where
+      has : Export → Bool
+      has y = same_name y.name x.name
+
       longer : xs ≡ (front ++ (x ∷ [])) ++ rest
       longer = is ∙ sym (append_assoc front (x ∷ []) rest)
 
       last : (p : Export → Bool) → some_of p (x ∷ earlier) ≡ some_of p (front ++ (x ∷ []))
       last p = ap (λ b. p x || b) (same p) ∙ sym (some_last p front x)
 
-  whole : (xs : List Export) → each (in_list xs) 0 xs ≡ names_among v.place [] m 0 xs
-  whole xs = among xs xs [] [] refl (λ p. refl)
+  whole : (o : Option Module) → each (new_name place (list_of (λ x. x.exports) o) m) 0 (list_of (λ x. x.exports) o) ≡ option_map_or (λ x. names_among place [] m 0 x.exports) o (Ok tt)
+  whole None = refl
+  whole (Some x) = among x.exports x.exports [] [] refl (λ p. refl)
 
-  pub names_told : all_of (name_check m) (export_list m) v ≡ one_of names_check module_list v m
-  unfolding in_list
-  names_told = way (slice_get v.table.modules m)
+module _ {P : Type 0} (v w : Meaning P) (m : ℕ) (same : w ≡ v) where
+  -- those before export i
+  pub new_told : (i : ℕ) (x : Export) (r : Checked P) → Some x ≡ export_at v.table m i →
+      r ≡ each_below (λ j. option_map_or (other_name w.place m i x.name) (export_at w.table m j) (Ok tt)) 0 i →
+      r ≡ option_map_or (new_name v.place (exports_of v.table m) m i) (export_at v.table m i) (Ok tt)
+  new_told i x r at told =
+      told ∙ ap (λ u. each_below (λ j. option_map_or (other_name u.place m i x.name) (export_at u.table m j) (Ok tt)) 0 i) same
+      ∙ scan_told (λ y. same_name y.name x.name) (fault_at v.place NameTwice (thing.Export m i) field.Name) i (exports_of v.table m)
+      ∙ ap (λ o. option_map_or (new_name v.place (exports_of v.table m) m i) o (Ok tt)) at
+
+  -- all exports of the module
+  pub names_told : (info : ModuleInfo) (r : Checked P) → Some info ≡ table_module v.table m →
+      r ≡ each_below (λ i. option_map_or (new_name w.place (exports_of w.table m) m i) (export_at w.table m i) (Ok tt)) 0 info.exports →
+      r ≡ option_map_or (λ x. names_among v.place [] m 0 x.exports) (slice_get v.table.modules m) (Ok tt)
+  names_told info r asked told =
+      each_there (new_name v.place (exports_of v.table m) m) info.exports (exports_of v.table m) r (count (slice_get v.table.modules m) asked)
+      (told ∙ ap (λ u. each_below (λ i. option_map_or (new_name u.place (exports_of u.table m) m i) (export_at u.table m i) (Ok tt)) 0 info.exports) same)
+      ∙ whole v.place m (slice_get v.table.modules m)
     where
-      way : (o : Option Module) → each (in_list (list_of (λ x. x.exports) o)) 0 (list_of (λ x. x.exports) o) ≡ if_there (names_check v m) o
-      way None = refl
-      way (Some x) = whole x.exports
+      count : (o : Option Module) → Some info ≡ option_map info_of o → info.exports ≡ length (list_of (λ x. x.exports) o)
+      count None e = let z : ◌≡◌ {A = ℕ} 0 1 = cc in absurd (omega arith)
+      count (Some x) e = let is : info ≡ info_of x = cc in ap (λ i. i.exports) is

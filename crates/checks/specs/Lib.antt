@@ -1,3 +1,2 @@
-pub mod Counted
 pub mod Named
 pub mod Linked

@@ -1,9 +1,13 @@
--- What is checked of a symbol's link.
-use Rattle.std.specs.Prelude.{ℕ}
-use Rattle.tables.specs.Value.{Meaning}
-use Rattle.tables.specs.View.{view}
-use Rattle.tables.specs.declared.parts.Symbol.{Symbol}
-use Rattle.definitions.specs.Checks.{Checked, link_checked}
+-- What is checked of a symbol's chain of links, by the symbol's number alone.
+use Rattle.std.specs.Prelude.{ℕ, not, Option}
+use Rattle.tables.specs.View.{View}
+use Rattle.tables.specs.Links.{endless}
+use Rattle.tables.specs.declared.fault.Cause.TheVariants.{EndlessLinks}
+use Rattle.tables.specs.declared.thing.Field.{Field}
+use Rattle.tables.specs.declared.thing.Field.TheVariants as field
+use Rattle.tables.specs.declared.thing.Thing.{Thing}
+use Rattle.tables.specs.declared.thing.Thing.TheVariants as thing
+use Rattle.definitions.specs.Checks.{Checked, unless, fault_at}
 
-abbrev pub link_check : {P : Type 0} → Meaning P → ℕ → Symbol → Checked P
-link_check v s x = link_checked v.place (view v.table) s x
+abbrev pub chain_checked : {P : Type 0} → (Thing → Field → Option P) → View → ℕ → Checked P
+chain_checked place t s = unless (not (endless t s)) (fault_at place (EndlessLinks s) (thing.Symbol s) field.Whole)

@@ -1,79 +1,28 @@
 // Refuses links in a circle.
-ghost use Rattle.std.specs.Prelude.{◌≡◌, ◌<◌, not, length};
-ghost use Rattle.tables.specs.View.{view, symbol_at};
-ghost use Rattle.tables.specs.Links.{endless};
+ghost use Rattle.std.specs.Prelude.{◌≡◌};
+ghost use Rattle.tables.specs.View.{view};
 ghost use Rattle.definitions.specs.Checks.{links_checked};
-ghost use Rattle.checkparts.specs.Each.{all_of, one_of};
-ghost use Rattle.checkparts.specs.Lists.{symbol_list};
-ghost use Rattle.checks.specs.Linked.{link_check};
+ghost use Rattle.checks.specs.Linked.{chain_checked};
 
-use checkparts::faults::fault_at;
+use asks::end_of_chain;
+use checkparts::each::{Check, check_each};
+use checkparts::faults::check_that;
 use tables::fault::{Cause, Fault};
 use tables::table::LinkTable;
 use tables::thing::{Field, Thing};
 
-// The symbol that symbol `s` links to; 0 where there is no such symbol.
-fn link_of<'t, T: LinkTable<'t>>(table: &mut T, s: usize) -> usize
-    ensures answer { result ≡ (symbol_at (view (T.means table.old).table) s).link }
-    ensures kept { T.means table.new ≡ T.means table.old }
-{
-    let Some(symbol) = table.symbol(s) else {
-        return 0;
-    };
-    symbol.link as usize
-}
+// A symbol's chain of links ends.
+#[derive(Clone, Copy)]
+struct Chains;
 
-// The chain of links from symbol `s` ends.
-fn is_ending<'t, T: LinkTable<'t>>(table: &mut T, symbols: usize, s: usize) -> bool
-    requires { symbols ≡ length (symbol_list (T.means table.old)) }
-    ensures answer { result ≡ not (endless (view (T.means table.old).table) s) }
-    ensures kept { T.means table.new ≡ T.means table.old }
-{
-    let mut at = s;
-    for i in 0..symbols {
-        let link = link_of(table, at);
-        if link == at {
-            return true;
-        }
-        at = link;
-    }
-    link_of(table, at) == at
-}
+impl<'t, T: LinkTable<'t>> Check<'t, T> for Chains {
+    ghost says = { λ _ v s. chain_checked v.place (view v.table) s };
 
-// Symbol `s` of `symbols` does not link in a circle.
-fn check_link<'t, T: LinkTable<'t>>(
-    table: &mut T,
-    symbols: usize,
-    s: usize,
-) -> Result<(), Fault<T::Place>>
-    requires { (symbols ≡ length (symbol_list (T.means table.old))) × (s < symbols) }
-    ensures answer { result ≡ one_of link_check symbol_list (T.means table.old) s }
-    ensures kept { T.means table.new ≡ T.means table.old }
-{
-    if is_ending(table, symbols, s) {
-        return Ok(());
+    fn check(&self, table: &mut T, s: usize) -> Result<(), Fault<T::Place>> {
+        let ends = end_of_chain(table, s).is_some();
+        let cause = Cause::EndlessLinks { symbol: s };
+        check_that(table, ends, cause, Thing::Symbol(s), Field::Whole)
     }
-    Err(fault_at(
-        table,
-        Cause::EndlessLinks { symbol: s },
-        Thing::Symbol(s),
-        Field::Whole,
-    ))
-}
-
-// Every symbol.
-fn check_symbols_links<'t, T: LinkTable<'t>>(
-    table: &mut T,
-    symbols: usize,
-) -> Result<(), Fault<T::Place>>
-    requires { symbols ≡ length (symbol_list (T.means table.old)) }
-    ensures answer { result ≡ all_of link_check symbol_list (T.means table.old) }
-    ensures kept { T.means table.new ≡ T.means table.old }
-{
-    for s in 0..symbols {
-        check_link(table, symbols, s)?;
-    }
-    Ok(())
 }
 
 // Refuses the lowest symbol whose chain of links has no end.
@@ -82,5 +31,5 @@ pub fn check_links<'t, T: LinkTable<'t>>(table: &mut T) -> Result<(), Fault<T::P
     ensures kept { T.means table.new ≡ T.means table.old }
 {
     let symbols = table.symbol_count();
-    check_symbols_links(table, symbols)
+    check_each(table, symbols, &Chains)
 }

@@ -1,6 +1,6 @@
 -- The least row of class a is of class a.
-use Rattle.std.proofs.Common.{◌≡◌, ℕ, zero, suc, ◌<◌, ◌≤◌, Bool, true, false, cond, List, [], ◌∷◌, ◌++◌, length, get_or, Some, sym, refl, ap, ◌∙◌, subst, ⊎_elim, arith, length-append}
-use Rattle.std.proofs.lemmas.List.{append-nil, get_or_append_left}
+use Rattle.std.proofs.Common.{◌≡◌, ℕ, zero, suc, ◌<◌, ◌≤◌, Bool, true, false, cond, List, [], ◌∷◌, ◌++◌, length, get_or, Some, sym, refl, subst, ⊎_elim, arith, length-append}
+use Rattle.std.proofs.lemmas.List.{append-nil, get_or_at, get_or_append_left}
 use Rattle.std.proofs.ByRecursion.{All-get_or}
 use Rattle.std.proofs.lemmas.Bool.{cases_lt, and_parts, cases_Bool, both_ways, not-true}
 use Rattle.tables.specs.Below.{some_below, those_below}
@@ -8,13 +8,6 @@ use Rattle.definitions.specs.Classes.{Rows, same_row, least, leasts, classes, cl
 use Rattle.definitions.proofs.Below.{some_below_decides}
 use Rattle.definitions.proofs.Classes.{same_row_decides, those_pass}
 use Rattle.classes.proofs.Placing.{place_at}
-
-at_end : (xs : List ℕ) (n a : ℕ) → a ≡ length xs → get_or (xs ++ (n ∷ [])) a 0 ≡ n
-at_end xs n a e = ap (λ k. get_or (xs ++ (n ∷ [])) k 0) e ∙ go xs
-  where
-    go : (xs : List ℕ) → get_or (xs ++ (n ∷ [])) (length xs) 0 ≡ n
-    go [] = refl
-    go (x ∷ xs) = go xs
 
 -- the numbers below n that pass rise
 pub those_rise : (p : ℕ → Bool) (n i j : ℕ) → i < j → j < length (those_below n p) → get_or (those_below n p) i 0 < get_or (those_below n p) j 0
@@ -33,7 +26,7 @@ those_rise p (suc n) i j l h = go (p n) h (those_rise p n i j l)
         let at_i = get_or_append_left (those_below n p) (n ∷ []) 0 i (omega arith) in
         let less = ih x in omega arith)
         (λ (x : length (those_below n p) ≤ j).
-        let at_j = at_end (those_below n p) n j (omega arith) in
+        let at_j = get_or_at (those_below n p) n [] 0 j (omega arith) in
         let at_i = get_or_append_left (those_below n p) (n ∷ []) 0 i (omega arith) in
         let less = (All-get_or (λ x. (x < n) × (p x ≡ true)) (those_below n p) i 0 (omega arith) (those_pass p n)).0 in omega arith)
         (cases_lt j (length (those_below n p)))

@@ -30,12 +30,12 @@ place_next p xs d f n is same (Some k) h =
     place_at p xs d k (omega arith) (sym (same k small) ∙ h.2) (λ j l. sym (same j (omega arith)) ∙ h.3 j (omega arith) l)
 
 pub place_more : {A : Type 0} (p : A → Bool) (xs ys : List A) (k : ℕ) → place p xs ≡ Some k → place p (xs ++ ys) ≡ Some k
-place_more p [] ys k e = let z : ◌≡◌ {A = ℕ} 0 1 = cc in absurd (omega arith)
+place_more p [] ys k e = cc
 place_more p (x ∷ xs) ys k e = go (p x) (place p xs) e (place_more p xs ys)
   where
     go : (b : Bool) (o : Option ℕ) → cond b (Some 0) (next o) ≡ Some k → ((j : ℕ) → o ≡ Some j → place p (xs ++ ys) ≡ Some j) → cond b (Some 0) (next (place p (xs ++ ys))) ≡ Some k
     go true o e ih = e
-    go false None e ih = let z : ◌≡◌ {A = ℕ} 0 1 = cc in absurd (omega arith)
+    go false None e ih = cc
     go false (Some j) e ih = ap next (ih j refl) ∙ e
 
 pub place_last : {A : Type 0} (p : A → Bool) (xs : List A) (x : A) → place p xs ≡ None → place p (xs ++ (x ∷ [])) ≡ cond (p x) (Some (length xs)) None
@@ -48,9 +48,9 @@ place_last p (y ∷ ys) x e = go (p y) (place p ys) e (place_last p ys x)
 
     go : (b : Bool) (o : Option ℕ) → cond b (Some 0) (next o) ≡ None → (o ≡ None → place p (ys ++ (x ∷ [])) ≡ cond (p x) (Some (length ys)) None)
         → cond b (Some 0) (next (place p (ys ++ (x ∷ [])))) ≡ cond (p x) (Some (length (y ∷ ys))) None
-    go true o e ih = let z : ◌≡◌ {A = ℕ} 0 1 = cc in absurd (omega arith)
+    go true o e ih = cc
     go false None e ih = ap next (ih refl) ∙ after (p x)
-    go false (Some j) e ih = let z : ◌≡◌ {A = ℕ} 0 1 = cc in absurd (omega arith)
+    go false (Some j) e ih = cc
 
 -- ---- one row more
 
@@ -110,7 +110,7 @@ module _ (w : ℕ) (bits : Rows) (m : ℕ) where
           let b = (some_below_decides (bits m) (λ k. bits m k ≡ true) (λ k. (λ x. x, λ x. x)) w).0 (nonempty (cases_Bool (some_below w (bits m)))) in
           let c = class_some m w bits q.0 b.0 q.1 b.1 (q.2 b.0 b.1 ∙ b.2) in
           let is = sym none ∙ sym (class_like m w bits q.0 m q.2) ∙ c.1 in
-          let z : ◌≡◌ {A = ℕ} 0 1 = cc in absurd (omega arith)
+          cc
 
   -- ---- the classes then
 
@@ -139,7 +139,7 @@ module _ (w : ℕ) (bits : Rows) (m : ℕ) where
               let b = (some_below_decides (bits m) (λ k. bits m k ≡ true) (λ k. (λ x. x, λ x. x)) w).0 (and_parts _ _ h).0 in
               let c = class_some m w bits i b.0 l b.1 (sym ((same_row_decides m w bits m i).0 t b.0 b.1) ∙ b.2) in
               let is = sym e ∙ c.1 in
-              let z : ◌≡◌ {A = ℕ} 0 1 = cc in omega arith
+              cc
 
 -- what is a least row of the first rows is one of all
 module _ (w : ℕ) (bits : Rows) (m : ℕ) where

@@ -61,7 +61,7 @@ module _ (n v w : ℕ) (narrow : v ≤ w) (b c : Rows) (same : (i k : ℕ) → i
 module _ {bits : Rows} {n w rows : ℕ} {ws : List ℕ} (says : SaysRows bits n w rows ws) where
   agree : (i k : ℕ) → i < n → k < w → row_has rows ws i k ≡ bits i k
   unfolding row_has
-  agree i k l b = let narrow = says.narrow in says.bits_are i k l (omega arith)
+  agree i k l b = says.bits_are i k l (omega arith)
 
   empty : (i k : ℕ) → i < n → w ≤ k → k < 256 → row_has rows ws i k ≡ false
   unfolding row_has

@@ -2,6 +2,8 @@
 use Rattle.std.specs.Prelude.{◌≡◌, ℕ, ◌+◌, ◌*◌, ◌<◌, ◌≤◌, min, Bool, false, ◌⊎◌, List, Some, None, Ok, Err, Option, Result, slice_index}
 use Rattle.rows.specs.Bits.{has}
 use Rattle.definitions.specs.Classes.{Rows, same_row, leasts, classes, class}
+use Rattle.classes.specs.declared.RowPlaces.{RowPlaces}
+use Rattle.classes.specs.declared.TooManyClasses.{TooManyClasses}
 
 -- row i of the rows that begin at word `rows` has bit k
 unfoldable pub row_has : ℕ → List ℕ → ℕ → ℕ → Bool
@@ -13,18 +15,19 @@ pub record SaysRows (bits : Rows) (n w rows : ℕ) (ws : List ℕ) : Type 0 wher
   pub bits_are : (i k : ℕ) → i < n → k < 256 → has ws (rows + 4 * i) k ≡ bits i k
   pub none : (i k : ℕ) → i < n → w ≤ k → k < 256 → bits i k ≡ false
 
--- n rows, then their numbers, then the least row of each class, of which there are no more than rows and at most `most`
-pub record Layout (rows n numbers firsts most len : ℕ) : Type 0 where
-  pub order : rows + 4 * n ≤ numbers
-  pub between : numbers + n ≤ firsts
-  pub room : firsts + min n most ≤ len
+-- the rows, then their numbers, then the least row of each class, of which there are no more than rows and at most `most`
+pub record Layout (at : RowPlaces) (most len : ℕ) : Type 0 where
+  pub order : at.rows + 4 * at.count ≤ at.numbers
+  pub between : at.numbers + at.count ≤ at.firsts
+  pub room : at.firsts + min at.count most ≤ len
 
 -- the least row of class k is as row i
-unfoldable pub same_as : ℕ → ℕ → List ℕ → ℕ → ℕ → Bool
-same_as rows firsts ws i k = same_row 256 (row_has rows ws) (slice_index ws (firsts + k)) i
+unfoldable pub same_as : RowPlaces → List ℕ → ℕ → ℕ → Bool
+same_as at ws i k = same_row 256 (row_has at.rows ws) (slice_index ws (at.firsts + k)) i
 
-abbrev pub Firsts : ℕ → ℕ → ℕ → List ℕ → Type 0
-Firsts firsts count n ws = (k : ℕ) → k < count → slice_index ws (firsts + k) < n
+-- the least rows of `count` classes are rows
+abbrev pub Firsts : RowPlaces → ℕ → List ℕ → Type 0
+Firsts at count ws = (k : ℕ) → k < count → slice_index ws (at.firsts + k) < at.count
 
 -- the number of a row
 abbrev pub stored : Option ℕ → ℕ
@@ -32,27 +35,24 @@ stored None = 0
 stored (Some a) = a + 1
 
 -- the first m rows are numbered, and have `count` classes
-pub record Numbering (bits : Rows) (rows n numbers firsts most m count : ℕ) (vs : List ℕ) : Type 0 where
-  pub rows_are : (i k : ℕ) → i < n → k < 256 → row_has rows vs i k ≡ bits i k
+pub record Numbering (bits : Rows) (at : RowPlaces) (most m count : ℕ) (vs : List ℕ) : Type 0 where
+  pub rows_are : (i k : ℕ) → i < at.count → k < 256 → row_has at.rows vs i k ≡ bits i k
   pub counts : count ≡ classes m 256 bits
   pub at_most : count ≤ most
   pub few : count ≤ m
-  pub first : (a : ℕ) → a < count → slice_index vs (firsts + a) ≡ slice_index (leasts m 256 bits) a
-  pub number : (i : ℕ) → i < m → slice_index vs (numbers + i) ≡ stored (class m 256 bits i)
+  pub first : (a : ℕ) → a < count → slice_index vs (at.firsts + a) ≡ slice_index (leasts m 256 bits) a
+  pub number : (i : ℕ) → i < m → slice_index vs (at.numbers + i) ≡ stored (class m 256 bits i)
 
 -- the words below the numbers and behind the least rows are as they were
-abbrev pub Outside : ℕ → ℕ → ℕ → ℕ → List ℕ → List ℕ → Type 0
-Outside n numbers firsts most ws vs = (k : ℕ) → (k < numbers) ⊎ (firsts + min n most ≤ k) → slice_index vs k ≡ slice_index ws k
+abbrev pub Outside : RowPlaces → ℕ → List ℕ → List ℕ → Type 0
+Outside at most ws vs = (k : ℕ) → (k < at.numbers) ⊎ (at.firsts + min at.count most ≤ k) → slice_index vs k ≡ slice_index ws k
 
--- there are more than `most` classes, and m is the least row of class `most`
-pub record Over (bits : Rows) (n most m : ℕ) : Type 0 where
+-- there are more than `most` classes, and e names the least row of class `most`
+pub record Over (bits : Rows) (n most : ℕ) (e : TooManyClasses) : Type 0 where
   pub many : most < classes n 256 bits
-  pub which : m ≡ slice_index (leasts n 256 bits) most
+  pub which : e.least ≡ slice_index (leasts n 256 bits) most
 
-abbrev pub Numbered : Rows → ℕ → ℕ → ℕ → ℕ → ℕ → List ℕ → Result ℕ ℕ → Type 0
-Numbered bits rows n numbers firsts most vs (Ok count) = Numbering bits rows n numbers firsts most n count vs
-Numbered bits rows n numbers firsts most vs (Err m) = Over bits n most m
-
-abbrev pub OneNumbered : Rows → ℕ → ℕ → ℕ → ℕ → ℕ → ℕ → List ℕ → Option ℕ → Type 0
-OneNumbered bits rows n numbers firsts most m vs None = Over bits (m + 1) most m
-OneNumbered bits rows n numbers firsts most m vs (Some count) = Numbering bits rows n numbers firsts most (m + 1) count vs
+-- the first m rows are numbered, or have too many classes
+abbrev pub Numbered : Rows → RowPlaces → ℕ → ℕ → List ℕ → Result ℕ TooManyClasses → Type 0
+Numbered bits at most m vs (Ok count) = Numbering bits at most m count vs
+Numbered bits at most m vs (Err e) = Over bits m most e

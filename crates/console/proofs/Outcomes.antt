@@ -1,18 +1,22 @@
--- What comes of a text whose table passes the check.
-use Rattle.std.proofs.Common.{◌≡◌, ℕ, ◌≤◌, cond, List, length, Some, None, Ok, Err, Option, sym, refl, ap, ◌∙◌, arith}
+-- What comes of a text whose table does not pass the check.
+use Rattle.std.proofs.Common.{◌≡◌, ℕ, ◌≤◌, cond, List, length, Some, None, Err, Option, sym, ap, ◌∙◌, refl, arith}
 use Rattle.std.proofs.lemmas.Bool.{le-ltb}
+use Rattle.tables.specs.declared.fault.Fault.{Fault}
 use Rattle.texts.specs.declared.place.TextPlace.{TextPlace}
 use Rattle.textparts.specs.Said.{opened}
-use Rattle.texttable.specs.Texts.{Opened, checked, meaning_of, refused_at}
+use Rattle.texttable.specs.Texts.{Opened, checked, form_fault, refused_at}
 use Rattle.texttable.specs.declared.table.TextTable.{TextTable}
-use Rattle.console.specs.Outcome.{header_line, header_of, too_long, outcome}
+use Rattle.texttable.proofs.Openings.{refused_text}
+use Rattle.console.specs.Outcome.{header_of, too_long, outcome}
 
-passes : (o : Option TextPlace) → Ok tt ≡ checked o → o ≡ None
-passes None e = refl
-passes (Some p) e = let z : ◌≡◌ {A = ℕ} 0 1 = cc in absurd (omega arith)
-
-pub opened_outcome : (text : List ℕ) (t : TextTable) (bytes : List ℕ) → length text ≤ 20000 → Opened text t → Ok tt ≡ checked (refused_at t) →
-    bytes ≡ header_line (meaning_of t).table → outcome text ≡ Ok bytes
-opened_outcome text t bytes short o ok e =
-    ap (λ b. cond b (Err (too_long (length text))) (header_of (opened text))) (le-ltb 20000 (length text) short)
-    ∙ ap header_of (o.says (passes (refused_at t) ok)) ∙ ap Ok (sym e)
+pub refused_outcome : (text : List ℕ) (t : TextTable) (f : Fault TextPlace) → length text ≤ 20000 → Opened text t → Err f ≡ checked (refused_at t) → outcome text ≡ Err f
+refused_outcome text t f short o e = way (refused_at t) refl e
+  where
+    way : (r : Option TextPlace) → refused_at t ≡ r → Err f ≡ checked r → outcome text ≡ Err f
+    way None h e = let z : ◌≡◌ {A = ℕ} 0 1 = cc in absurd (omega arith)
+    way (Some p) h e =
+        ap (λ b. cond b (Err (too_long (length text))) (header_of (opened text))) (le-ltb 20000 (length text) short)
+        ∙ ap header_of (refused_text text t p o h) ∙ ap Err (sym same)
+      where
+        same : f ≡ form_fault p
+        same = cc

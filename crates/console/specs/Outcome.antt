@@ -1,16 +1,17 @@
 -- What the program writes for a text.
-use Rattle.std.specs.Prelude.{◌≡◌, ℕ, Bool, true, false, cond, List, [], ◌∷◌, length, Some, None, Ok, Err, vec_items, Result, nat_lt}
+use Rattle.std.specs.Prelude.{◌≡◌, ℕ, cond, List, [], ◌∷◌, length, Some, Ok, Err, vec_items, Result, nat_lt}
 use Rattle.std.specs.Option.{option_map}
-use Rattle.tables.specs.Causes.{number_of}
+use Rattle.tables.specs.Causes.{number_of, bare_fault}
 use Rattle.tables.specs.Value.{Table}
 use Rattle.tables.specs.declared.fault.Cause.TheVariants.{TooMany}
 use Rattle.tables.specs.declared.fault.Fault.{Fault}
-use Rattle.tables.specs.declared.thing.Field.TheVariants.{Whole}
 use Rattle.texts.specs.declared.place.TextPlace.{TextPlace}
 use Rattle.textparts.specs.Said.{opened}
 use Rattle.texttable.specs.Texts.{form_fault}
 use Rattle.written.specs.Written.{fields_line}
 use Rattle.console.specs.declared.Answer.{Answer}
+use Rattle.console.specs.declared.Answer.TheVariants as answer
+use Rattle.console.specs.declared.Answer.TheVariants.{Delivered}
 use Rattle.console.specs.declared.stop.Stop.{Stop}
 use Rattle.console.specs.declared.stop.Stop.TheVariants.{Memory, Refused}
 
@@ -25,7 +26,7 @@ fault_line f = fields_line 70 (Some (number_of f.cause) ∷ option_map (λ p. p.
 
 -- a text that is longer than any that is read
 abbrev pub too_long : ℕ → Fault TextPlace
-too_long n = record { cause = TooMany n; thing = None; field = Whole; place = None }
+too_long n = bare_fault (TooMany n)
 
 -- the header of the table that a text says, or its first fault
 abbrev pub header_of : Result Table TextPlace → Result (List ℕ) (Fault TextPlace)
@@ -35,21 +36,13 @@ header_of (Err p) = Err (form_fault p)
 abbrev pub outcome : List ℕ → Result (List ℕ) (Fault TextPlace)
 outcome text = cond (nat_lt 20000 (length text)) (Err (too_long (length text))) (header_of (opened text))
 
--- the bytes that are written, and whether they tell of a refusal
-abbrev pub bytes_of : Result (List ℕ) (Fault TextPlace) → List ℕ
-bytes_of (Ok bytes) = bytes
-bytes_of (Err f) = fault_line f
-
-abbrev pub is_refusal : Result (List ℕ) (Fault TextPlace) → Bool
-is_refusal (Ok bytes) = false
-is_refusal (Err f) = true
-
-pub record Answered (text : List ℕ) (a : Answer) : Type 0 where
-  pub bytes : vec_items a.bytes ≡ bytes_of (outcome text)
-  pub refused : a.refused ≡ is_refusal (outcome text)
+-- the code's answer is the outcome: the bytes of what is delivered, or the line of the fault
+abbrev pub Answered : List ℕ → Answer → Type 0
+Answered text (Delivered v) = outcome text ≡ Ok (vec_items v)
+Answered text (answer.Refused v) = (f : Fault TextPlace) × (outcome text ≡ Err f) × (vec_items v ≡ fault_line f)
 
 -- the code's result, by the bytes of what it holds, is the outcome, but for want of memory
-abbrev pub Delivered : {A : Type 0} → (A → List ℕ) → Result A Stop → Result (List ℕ) (Fault TextPlace) → Type 0
-Delivered bytes (Ok v) o = o ≡ Ok (bytes v)
-Delivered bytes (Err Memory) o = Unit {0}
-Delivered bytes (Err (Refused f)) o = o ≡ Err f
+abbrev pub Delivers : {A : Type 0} → (A → List ℕ) → Result A Stop → Result (List ℕ) (Fault TextPlace) → Type 0
+Delivers bytes (Ok v) o = o ≡ Ok (bytes v)
+Delivers bytes (Err Memory) o = Unit {0}
+Delivers bytes (Err (Refused f)) o = o ≡ Err f

@@ -2,13 +2,12 @@
 #![tactic(auto)]
 
 ghost use Rattle.std.specs.Prelude.{◌≡◌, IfOk};
-ghost use Rattle.console.specs.Outcome.{header_line, fault_line, too_long, outcome, Answered, Delivered};
+ghost use Rattle.console.specs.Outcome.{header_line, fault_line, outcome, Answered, Delivers};
 
 use std::alloc::{AllocError, Global};
 use stop::Stop;
 use tables::fault::{Cause, Fault};
 use tables::table::LinkTable;
-use tables::thing::Field;
 use texts::TextPlace;
 use texttable::TextTable;
 use written::line_text;
@@ -18,20 +17,13 @@ mod stop;
 // The longest text that is read.
 pub const LONGEST: usize = 20_000;
 
-// The bytes to write, and whether they tell of a refusal.
+// The bytes to write. A type of its own and no `Result`: a refusal is an answer here, and the error beside it is want of memory.
 #[derive(Drop)]
-pub struct Answer {
-    pub bytes: Vec<u8>,
-    pub refused: bool,
-}
-
-fn widened(n: Option<u32>) -> Option<usize>
-    ensures { result ≡ n }
-{
-    match n {
-        Some(v) => Some(v as usize),
-        None => None,
-    }
+pub enum Answer {
+    // what the program writes for a text that it takes
+    Delivered(Vec<u8>),
+    // the line F of a text that it refuses
+    Refused(Vec<u8>),
 }
 
 // The header of a table, as its questions answer it.
@@ -41,8 +33,8 @@ fn header_line<'t, T: LinkTable<'t>>(heap: Global, table: &mut T) -> Result<Vec<
     let modules = table.module_count();
     let entries = table.entry_count();
     let symbols = table.symbol_count();
-    let runtime = widened(table.runtime());
-    let strict = if table.strict() { 1 } else { 0 };
+    let runtime = table.runtime().map(|m| m as usize);
+    let strict = usize::from(table.strict());
     let fields = [
         Some(modules),
         Some(entries),
@@ -58,36 +50,21 @@ fn fault_line(heap: Global, fault: &Fault<TextPlace>) -> Result<Vec<u8>, AllocEr
     ensures { IfOk result (λ v. v.items ≡ fault_line fault.now) }
 {
     let number = fault.cause.number() as usize;
-    let (line, column) = match fault.place {
-        Some(place) => (Some(place.line), Some(place.column)),
-        None => (None, None),
-    };
+    let line = fault.place.map(|place| place.line);
+    let column = fault.place.map(|place| place.column);
     line_text(heap, b'F', &[Some(number), line, column])
-}
-
-// A text that is longer than any that is read.
-fn too_long(count: usize) -> Fault<TextPlace>
-    ensures { result ≡ too_long count }
-{
-    Fault {
-        cause: Cause::TooMany { count },
-        thing: None,
-        field: Field::Whole,
-        place: None,
-    }
 }
 
 // What the program writes for a text that it does not refuse.
 fn delivered(heap: Global, text: &[u8]) -> Result<Vec<u8>, Stop>
-    ensures { Delivered (λ v. v.items) result (outcome text.now) }
+    ensures { Delivers (λ v. v.items) result (outcome text.now) }
 {
     if text.len() > LONGEST {
-        return Err(Stop::Refused(too_long(text.len())));
+        return Err(Stop::Refused(Fault::from(Cause::TooMany { count: text.len() })));
     }
     let mut table = TextTable::open(heap, text)?;
     table.check()?;
-    let line = header_line(heap, &mut table)?;
-    Ok(line)
+    Ok(header_line(heap, &mut table)?)
 }
 
 // What the program writes for a text: the table's header, or the line F of its first fault.
@@ -95,14 +72,8 @@ pub fn respond(heap: Global, text: &[u8]) -> Result<Answer, AllocError>
     ensures { IfOk result (λ a. Answered text.now a) }
 {
     match delivered(heap, text) {
-        Ok(bytes) => Ok(Answer {
-            bytes,
-            refused: false,
-        }),
-        Err(Stop::Refused(fault)) => Ok(Answer {
-            bytes: fault_line(heap, &fault)?,
-            refused: true,
-        }),
+        Ok(bytes) => Ok(Answer::Delivered(bytes)),
+        Err(Stop::Refused(fault)) => Ok(Answer::Refused(fault_line(heap, &fault)?)),
         Err(Stop::Memory) => Err(AllocError),
     }
 }

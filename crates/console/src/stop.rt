@@ -1,4 +1,4 @@
-// Why there is no table to answer for.
+// Why there is no table to answer for: a text's own error, of a lower crate, has a place where this has a fault.
 ghost use Rattle.std.specs.Prelude.{◌≡◌};
 ghost use Rattle.console.specs.declared.stop.Stop.TheVariants.{Memory, Refused};
 

@@ -7,6 +7,7 @@ use Rattle.tables.specs.Value.{Table, Module, Entry, Export, Meaning}
 use Rattle.tables.specs.View.{View, view}
 use Rattle.tables.specs.Links.{endless}
 use Rattle.tables.specs.Names.{same_name}
+use Rattle.tables.specs.Causes.{bare_fault}
 use Rattle.tables.specs.Asked.{list_in}
 use Rattle.tables.specs.declared.parts.Site.{Site}
 use Rattle.tables.specs.declared.parts.Symbol.{Symbol}
@@ -42,7 +43,7 @@ abbrev pub fault_at : {P : Type 0} → (Thing → Field → Option P) → Cause 
 fault_at place c th f = record { cause = c; thing = Some th; field = f; place = place th f }
 
 abbrev pub plain_fault : {P : Type 0} → Cause → Fault P
-plain_fault c = record { cause = c; thing = None; field = field.Whole; place = None }
+plain_fault c = bare_fault c
 
 abbrev pub unless : {P : Type 0} → Bool → Fault P → Checked P
 unless b f = cond b (Ok tt) (Err f)

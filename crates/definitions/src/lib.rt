@@ -2,17 +2,19 @@
 // say that these definitions mean what the words of the subject mean.
 #![tactic(auto)]
 
-ghost use Rattle.std.specs.Prelude.{◌≡◌, ◌≤◌};
+ghost use Rattle.std.specs.Prelude.{◌≡◌};
 ghost use Rattle.definitions.specs.Bits.{has, atom};
 ghost use Rattle.definitions.specs.Cover.{loads, covered};
-ghost use Rattle.definitions.specs.Plan.{number, need, chunks_cyclic, decided, has_after};
+ghost use Rattle.definitions.specs.Plan.{number, chunks_cyclic, decided, has_after};
 ghost use Rattle.definitions.specs.Checks.{table_checked};
 ghost use Rattle.definitions.specs.Cases.{SmallCases, Refusals, in_order, first_again};
 ghost use Rattle.definitions.specs.Laws.{TestsAgree, Decisions};
 ghost use Rattle.definitions.specs.Prepared.{prepared, Prepares};
 
-// The verdict on an atom. Its number stands in `number` alone.
-#[derive(Clone, Copy)]
+pub mod size;
+
+// The verdict on an atom. Its number stands in `number` alone: a case that carries values has no discriminant to cast.
+#[derive(Clone, Copy, Debug, PartialEq, Eq)]
 pub enum Verdict {
     Undecided,
     NothingLost,
@@ -22,7 +24,7 @@ pub enum Verdict {
     Cyclic,
     Accepted,
     // with the entry and its module whose namespace is kept
-    AcceptedWithNamespace(u32, u32),
+    AcceptedWithNamespace { entry: u32, module: u32 },
 }
 
 impl Verdict {
@@ -37,59 +39,41 @@ impl Verdict {
             Verdict::Refused => 4,
             Verdict::Cyclic => 5,
             Verdict::Accepted => 6,
-            Verdict::AcceptedWithNamespace(_, _) => 7,
+            Verdict::AcceptedWithNamespace { .. } => 7,
         }
     }
 }
 
 // What the rules say of adding an atom to the chunk of one entry.
-#[derive(Clone, Copy)]
+#[derive(Clone, Copy, Debug, PartialEq, Eq)]
 pub enum ReducedEntriesAction {
     Avoid,
     Apply,
     // with the entry and its module whose namespace is kept
-    ApplyWithNamespaceExtraction(u32, u32),
+    ApplyWithNamespaceExtraction { entry: u32, module: u32 },
 }
 
 // The tests that compute say what the words of the subject say: paths, chains, cycles.
-pub fn tests_agree() -> u8
+pub fn tests_agree()
     ensures { TestsAgree has atom loads covered chunks_cyclic }
-{
-    0
-}
+{}
 
 // What the decisions come to, after any list of atoms.
-pub fn decisions_stand() -> u8
+pub fn decisions_stand()
     ensures { Decisions decided has_after }
-{
-    0
-}
+{}
 
 // The verdict on an atom is what table and veto alone prepare, and the test for cycles.
-pub fn prepared_stands() -> u8
+pub fn prepared_stands()
     ensures { Prepares prepared }
-{
-    0
-}
+{}
 
 // The small cases hold of the definitions.
-pub fn small_cases() -> u8
+pub fn small_cases()
     ensures { SmallCases in_order }
-{
-    0
-}
+{}
 
 // What begin refuses of small tables, and what it accepts.
-pub fn small_refusals() -> u8
+pub fn small_refusals()
     ensures { Refusals table_checked }
-{
-    0
-}
-
-// The words that a plan over so many modules and entries needs.
-pub fn words_needed(modules: usize, entries: usize) -> usize
-    requires { (modules ≤ 4096) × (entries ≤ 256) }
-    ensures { result ≡ need modules entries }
-{
-    12 * modules + 24 * entries + 32 * modules.min(256) + 16
-}
+{}

@@ -1,10 +1,16 @@
 -- Marks that spread from the nodes in slots, one after the other.
 use Rattle.std.proofs.Common.{◌≡◌, ℕ, ◌+◌, ◌<◌, ◌≤◌, Bool, true, false, List, Some, None, Option, sym, ap, ◌∙◌, subst, ⊎_elim, arith}
+use Rattle.std.proofs.lemmas.Option.{none-some, same_Some}
 use Rattle.std.proofs.lemmas.Bool.{cases_eq, cases_lt, both_ways}
-use Rattle.reach.specs.Paths.{Way, here, step, Reached}
+use Rattle.reach.specs.Paths.{Way, here, step, Closed, Reached}
 use Rattle.reach.specs.Shape.{Shape, Edge}
-use Rattle.reach.proofs.Walks.{reached_closed, some_same, none≢some}
-use Rattle.graphs.specs.Spreads.{Spread}
+use Rattle.reach.proofs.Walks.{reached_closed}
+
+-- of the n nodes those are marked that a path leads to from a node in the first i slots
+pub record Spread (edge : ℕ → ℕ → Type 0) (n : ℕ) (slot : ℕ → Option ℕ) (i : ℕ) (mark : ℕ → Bool) : Type 0 where
+  pub closed : Closed edge mark
+  pub full : (j w u : ℕ) → j < i → slot j ≡ Some w → Way edge w u → mark u ≡ true
+  pub sound : (u : ℕ) → u < n → mark u ≡ true → (j : ℕ) × (w : ℕ) × (j < i) × (slot j ≡ Some w) × Way edge w u
 
 -- no node is marked
 pub spread_none : (edge : ℕ → ℕ → Type 0) (n : ℕ) (slot : ℕ → Option ℕ) (mark : ℕ → Bool) → ((v w : ℕ) → edge v w → v < n)
@@ -22,10 +28,10 @@ module _ {edge : ℕ → ℕ → Type 0} {n : ℕ} {slot : ℕ → Option ℕ} {
   spread_next {k} {w} after empty is r = record {
     closed = reached_closed f.closed r;
     full = λ j x u l at p.
-        ⊎_elim (λ (e : j ≡ k). r.full u (subst (λ y. Way edge y u) (some_same (sym at ∙ ap slot e ∙ is)) p))
+        ⊎_elim (λ (e : j ≡ k). r.full u (subst (λ y. Way edge y u) (same_Some x w (sym at ∙ ap slot e ∙ is)) p))
         (λ (ne : j ≡ k → ⊥).
         ⊎_elim (λ (b : j < i). r.kept u (f.full j x u b at p))
-        (λ (b : i ≤ j). absurd (none≢some (sym (empty j b (omega arith)) ∙ at))) (cases_lt j i)) (cases_eq j k);
+        (λ (b : i ≤ j). absurd (none-some x (sym (empty j b (omega arith)) ∙ at))) (cases_lt j i)) (cases_eq j k);
     sound = λ u small h.
         ⊎_elim (λ o. let s = f.sound u small o in (s.0, s.1, omega (arith, s.2), s.3, s.4))
         (λ p. (k, w, omega arith, is, p)) (r.sound u h);
@@ -34,7 +40,7 @@ module _ {edge : ℕ → ℕ → Type 0} {n : ℕ} {slot : ℕ → Option ℕ} {
   -- the slots from i on are empty
   pub spread_all : (m : ℕ) → ((j : ℕ) → i ≤ j → j < m → slot j ≡ None) → (j w u : ℕ) → j < m → slot j ≡ Some w → Way edge w u → mark u ≡ true
   spread_all m empty j w u h is p =
-      ⊎_elim (λ (b : j < i). f.full j w u b is p) (λ (b : i ≤ j). absurd (none≢some (sym (empty j b h) ∙ is))) (cases_lt j i)
+      ⊎_elim (λ (b : j < i). f.full j w u b is p) (λ (b : i ≤ j). absurd (none-some w (sym (empty j b h) ∙ is))) (cases_lt j i)
 
 -- a path stays among the nodes
 pub way_inside : (s : Shape) (ws : List ℕ) {w v : ℕ} → w < s.nodes → Way (Edge s ws) w v → v < s.nodes

@@ -1,8 +1,6 @@
 // Graphs whose edges are rows of bits in the memory itself: the row of node v begins at the word `at + 4 * v`, and has w
 // where an edge leads from v to w.
-ghost use Rattle.std.specs.Prelude.{◌+◌, ◌*◌, ◌≤◌, length};
-ghost use Rattle.rows.specs.Bits.{has};
-ghost use Rattle.graphs.specs.Tests.{row_shape, unless_shape, Filled};
+ghost use Rattle.std.specs.Prelude.{◌≤◌};
 
 use reach::{Graph, Slot};
 use rows::{next_below, test};
@@ -15,53 +13,59 @@ pub struct RowsAt {
     ghost few: { nodes ≤ 256 },
 }
 
-// The same, but no edge leads from a node that the row at `barred` has.
+// The graph `of`, but no edge leads from a node that the set at `barred` has.
 #[derive(Clone, Copy)]
-pub struct RowsUnless {
-    pub at: usize,
-    pub nodes: usize,
+pub struct Unless<G> {
+    pub of: G,
     pub barred: usize,
-    ghost few: { nodes ≤ 256 },
 }
 
-// The least number of the row at `at` from `from` on and below `nodes`, as a slot that holds itself.
-fn filled(words: &[u64], at: usize, from: usize, nodes: usize) -> Option<Slot>
-    requires { (at + 4 ≤ length words.now) × (nodes ≤ 256) }
-    ensures { Filled (has words.now at) from nodes result }
-{
-    match next_below(words, at, from, nodes) {
-        Some(w) => Some(Slot { index: w, node: w }),
-        None => None,
+impl Graph for RowsAt {
+    ghost use Rattle.std.proofs.Common.{ap};
+    ghost use Rattle.graphs.specs.declared.adjacency.RowsAt.{RowsAt};
+    ghost use Rattle.graphs.specs.Tests.{row_shape};
+
+    ghost kind = { RowsAt };
+
+    ghost means = { λ g. g };
+
+    ghost shape = { λ g. row_shape g.at g.nodes };
+
+    ghost same_shape = { λ g h e. ap (λ r. row_shape r.at r.nodes) e };
+
+    #[tactic(auto, unfolding(crate::specs::Tests::test_shape))]
+    fn nodes(&mut self) -> usize {
+        self.nodes
+    }
+
+    #[tactic(auto, unfolding(crate::specs::Tests::test_shape))]
+    fn next(&mut self, words: &[u64], v: usize, from: usize) -> Option<Slot> {
+        next_below(words, self.at + 4 * v, from, self.nodes).map(|w| Slot { index: w, node: w })
     }
 }
 
-impl<'t> Graph<'t, ()> for RowsAt {
-    type Place = ();
+impl<G: Graph> Graph for Unless<G> {
+    ghost use Rattle.std.specs.Prelude.{ℕ};
+    ghost use Rattle.graphs.specs.Tests.{unless_shape, unless_same};
 
-    ghost kind = { Unit {0} };
+    ghost kind = { ℕ × G.kind };
 
-    ghost means = { λ _. tt };
+    ghost means = { λ g. (g.barred, G.means g.of) };
 
-    ghost shape = { λ g _. row_shape g.at g.nodes };
+    ghost shape = { λ g. unless_shape g.barred (G.shape g.of) };
 
-    fn next(&self, source: &mut (), words: &[u64], v: usize, from: usize) -> Option<Slot> {
-        filled(words, self.at + 4 * v, from, self.nodes)
+    ghost same_shape = { λ g h e. unless_same e (G.same_shape g.of h.of) };
+
+    #[tactic(auto, unfolding(crate::specs::Tests::unless_shape))]
+    fn nodes(&mut self) -> usize {
+        self.of.nodes()
     }
-}
 
-impl<'t> Graph<'t, ()> for RowsUnless {
-    type Place = ();
-
-    ghost kind = { Unit {0} };
-
-    ghost means = { λ _. tt };
-
-    ghost shape = { λ g _. unless_shape g.at g.nodes g.barred };
-
-    fn next(&self, source: &mut (), words: &[u64], v: usize, from: usize) -> Option<Slot> {
+    #[tactic(auto, unfolding(crate::specs::Tests::unless_shape))]
+    fn next(&mut self, words: &[u64], v: usize, from: usize) -> Option<Slot> {
         if test(words, self.barred, v) {
             return None;
         }
-        filled(words, self.at + 4 * v, from, self.nodes)
+        self.of.next(words, v, from)
     }
 }

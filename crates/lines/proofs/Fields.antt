@@ -1,11 +1,15 @@
 -- The columns of a field, one at a time.
-use Rattle.std.proofs.Common.{◌≡◌, ℕ, ◌+◌, ◌-◌, ◌*◌, ◌^◌, ◌<◌, ◌≤◌, Bool, cond, ◌&&◌, eqb, leb, List, length, get_or, take, drop, Ok, Err, Result, sym, ap, ◌∙◌, arith, lit<, pow-add}
+use Rattle.std.proofs.Common.{◌≡◌, ℕ, ◌+◌, ◌-◌, ◌*◌, ◌^◌, ◌<◌, ◌≤◌, false, cond, eqb, leb, List, length, get_or, take, drop, Some, None, Ok, Err, Option, sym, ap, ◌∙◌, arith, lit<, pow-add}
 use native.Mathlib.Nat.{pow-le-pow_right}
-use Rattle.std.proofs.lemmas.Bool.{and_parts, and_from, leb-true, le-leb, eq-eqb, ne_eqb, cond_both}
-use Rattle.std.proofs.lemmas.List.{at_drop_more, at_drop_all, take_rest, get_or_past}
+use Rattle.std.proofs.lemmas.Bool.{and_parts, leb-true, le-leb, cond_both}
+use Rattle.std.proofs.lemmas.Bool.Decides.{leb_tells}
+use Rattle.std.proofs.lemmas.List.{at_drop_more, at_drop_all}
+use Rattle.std.specs.List.{PartBy}
+use Rattle.std.specs.Option.{ok_or, MatchOption}
 use Rattle.lines.specs.declared.field.Field.{Field}
 use Rattle.lines.specs.declared.field.Field.TheVariants.{Blank, Zero, Number, Wrong}
-use Rattle.lines.specs.Field.{column, columns, field, name, is_digit, Small}
+use Rattle.lines.specs.declared.wrong.WrongColumn.{WrongColumn}
+use Rattle.lines.specs.Field.{column, columns, field, number_in, optional_in, as_read, is_digit, Small}
 
 digit_small : (b n v : ℕ) → v < n → (f : Field) → Small (cond (is_digit b) (Number (v * 10 + (b - 48))) Wrong) (n * 10)
 digit_small b n v lt f =
@@ -47,22 +51,22 @@ module _ (xs : List ℕ) (i : ℕ) (f whole : Field) (inv : columns f (drop i xs
   pub columns_end : length xs ≤ i → f ≡ whole
   columns_end le = sym (at_drop_all (columns f) xs i le) ∙ inv
 
-pub field_at : (l : List ℕ) (at n : ℕ) → n ≡ 6 → at + 6 ≤ length l → columns Blank (take n (drop at l)) ≡ field l at
-field_at l at n e le = ap (λ n. columns Blank (take n (drop at l))) e ∙ ap (λ b. cond b (columns Blank (take 6 (drop at l))) Wrong) (sym (le-leb (at + 6) (length l) le))
+-- the field at an offset, by the part of the line that stands there
+module _ {A : Type 0} (now : A → List ℕ) (l : List ℕ) (i : ℕ) (r : Field) where
+  pub field_by : (o : Option A) → PartBy now l i (i + 6) o → MatchOption o (r ≡ Wrong) (λ x. r ≡ columns Blank (now x)) → r ≡ field l i
+  field_by None p m =
+      let cut : length l < i + 6 = omega arith in
+      let no : leb (i + 6) (length l) ≡ false = grind (arith, leb_tells (i + 6) (length l)) in
+      m ∙ ap (λ b. cond b (columns Blank (take 6 (drop i l))) Wrong) (sym no)
+  field_by (Some x) p m =
+      let six : i + 6 - i ≡ 6 = omega arith in
+      m ∙ ap (columns Blank) p.0.2 ∙ ap (λ n. columns Blank (take n (drop i l))) six
+      ∙ ap (λ b. cond b (columns Blank (take 6 (drop i l))) Wrong) (sym (le-leb (i + 6) (length l) p.0.1))
 
--- the part of `name` behind its first test
-abbrev behind : List ℕ → ℕ → Bool → Result (List ℕ) ℕ
-behind l at b = cond b (cond (leb (at + 2) (length l) && leb (length l) (at + 256)) (Ok (drop (at + 1) l)) (Err (at + 3))) (Err (at + 2))
-
-module _ (l : List ℕ) (at : ℕ) where
-  pub name_none : length l ≤ at → Err (at + 2) ≡ name l at
-  name_none le = ap (λ b. behind l at (eqb b 32)) (sym (get_or_past l at 0 le))
-
-  pub name_other : (get_or l at 0 ≡ 32 → ⊥) → Err (at + 2) ≡ name l at
-  name_other n = ap (behind l at) (sym (ne_eqb (get_or l at 0) 32 n))
-
-  pub name_found : get_or l at 0 ≡ 32 → at + 2 ≤ length l → length l ≤ at + 256 → Ok (take (length l - (at + 1)) (drop (at + 1) l)) ≡ name l at
-  name_found e lo hi =
-      ap Ok (take_rest l (at + 1))
-      ∙ ap (λ b. cond b (Ok (drop (at + 1) l)) (Err (at + 3))) (sym (and_from (leb (at + 2) (length l)) (leb (length l) (at + 256)) (le-leb _ _ lo) (le-leb _ _ hi)))
-      ∙ ap (behind l at) (sym (eq-eqb (get_or l at 0) 32 e))
+-- a number is an optional number that is there; a blank field is wrong
+pub number_from_optional : (f : Field) (c : ℕ) (o : Option ℕ) (e : WrongColumn) → e.column ≡ c → Ok o ≡ optional_in f c → as_read (ok_or o e) ≡ number_in f c
+number_from_optional Blank c None e k h = ap Err k
+number_from_optional Blank c (Some v) e k h = cc
+number_from_optional Zero c o e k h = let is : o ≡ Some 0 = cc in rw is
+number_from_optional (Number v) c o e k h = let is : o ≡ Some v = cc in rw is
+number_from_optional Wrong c o e k h = cc

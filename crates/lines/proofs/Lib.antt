@@ -1,2 +1,2 @@
 mod Fields
-mod Heads
+pub mod Letters

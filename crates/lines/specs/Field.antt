@@ -3,6 +3,7 @@
 use Rattle.std.specs.Prelude.{ℕ, ◌+◌, ◌-◌, ◌*◌, ◌<◌, Bool, cond, ◌&&◌, List, [], ◌∷◌, length, take, drop, Some, None, Ok, Err, Option, Result, ◌==◌, nat_le, nat_lt, slice_index}
 use Rattle.lines.specs.declared.field.Field.{Field}
 use Rattle.lines.specs.declared.field.Field.TheVariants.{Blank, Zero, Number, Wrong}
+use Rattle.lines.specs.declared.wrong.WrongColumn.{WrongColumn}
 
 -- go on with the value, or stop at the fault
 abbrev pub bind : {A B E : Type 0} → Result A E → (A → Result B E) → Result B E
@@ -67,7 +68,15 @@ Small Zero n = Unit {0}
 Small (Number v) n = v < n
 Small Wrong n = Unit {0}
 
--- a result by a value of what it holds
-abbrev pub ok_by : {A B E : Type 0} → (A → B) → Result A E → Result B E
-ok_by f (Ok a) = Ok (f a)
-ok_by f (Err e) = Err e
+-- 0 or 1, as a number
+abbrev pub bit_value : Bool → ℕ
+bit_value b = cond b 1 0
+
+-- a result of the code, by a value of what it holds, or the wrong column
+abbrev pub read_by : {A B : Type 0} → (A → B) → Result A WrongColumn → Result B ℕ
+read_by f (Ok a) = Ok (f a)
+read_by f (Err e) = Err e.column
+
+-- a result of the code whose value stands for itself
+abbrev pub as_read : {A : Type 0} → Result A WrongColumn → Result A ℕ
+as_read = read_by (λ a. a)

@@ -1,10 +1,15 @@
 // The fields of a line. `l` is the line without its letter, so that offset `at` of it is column `at + 2`.
+// `l` and `at` are two parameters: a field stands at a fixed offset, which says its column, and where a cursor stands after
+// one field is not carried to the next by the check (`returns` of each line of two fields or more stays open).
 ghost use Rattle.std.specs.Prelude.{◌≡◌, ◌+◌, ◌<◌, ◌≤◌, length};
-ghost use Rattle.lines.specs.Field.{column, columns, field, number, optional, bit, name, ended, Small, ok_by};
+ghost use Rattle.lines.specs.Field.{column, columns, field, number, optional, bit, name, ended};
+ghost use Rattle.lines.specs.Field.{Small, bit_value, read_by, as_read};
 ghost use Rattle.lines.specs.declared.field.Field.TheVariants.{Blank};
 
-// What the columns of a field say so far.
-#[derive(Clone, Copy)]
+use crate::wrong::WrongColumn;
+
+// What the columns of a field say so far: no `Result` of an `Option`, since a number may go on, and a 0 may not.
+#[derive(Debug, Clone, Copy, PartialEq, Eq)]
 pub enum Field {
     Blank,
     Zero,
@@ -45,67 +50,70 @@ fn read_columns(bytes: &[u8]) -> Field
 }
 
 // The field at an offset; one that is cut is wrong.
-fn read_field(l: &[u8], at: usize) -> Field
-    requires { at ≤ 1000 }
+fn read_field(l: &[u8], at: u16) -> Field
     ensures { result ≡ field l.now at }
 {
-    if l.len() < at + 6 {
-        return Field::Wrong;
-    }
-    read_columns(&l[at..at + 6])
+    let at = usize::from(at);
+    l.get(at..at + 6).map_or(Field::Wrong, read_columns)
 }
 
-// A number, or the field's column.
-pub(crate) fn read_number(l: &[u8], at: usize) -> Result<u32, usize>
-    requires { at ≤ 1000 }
-    ensures { result ≡ number l.now at }
-{
-    match read_field(l, at) {
-        Field::Zero => Ok(0),
-        Field::Number(v) => Ok(v),
-        Field::Blank | Field::Wrong => Err(at + 2),
-    }
-}
-
-// A number or a blank field.
-pub(crate) fn read_optional(l: &[u8], at: usize) -> Result<Option<u32>, usize>
-    requires { at ≤ 1000 }
-    ensures { result ≡ optional l.now at }
+// A number or a blank field; else the field's column.
+pub(crate) fn read_optional(l: &[u8], at: u16) -> Result<Option<u32>, WrongColumn>
+    ensures { as_read result ≡ optional l.now at }
 {
     match read_field(l, at) {
         Field::Blank => Ok(None),
         Field::Zero => Ok(Some(0)),
         Field::Number(v) => Ok(Some(v)),
-        Field::Wrong => Err(at + 2),
+        Field::Wrong => Err(WrongColumn {
+            column: usize::from(at) + 2,
+        }),
     }
+}
+
+// A number: a blank field is wrong.
+pub(crate) fn read_number(l: &[u8], at: u16) -> Result<u32, WrongColumn>
+    ensures { as_read result ≡ number l.now at }
+{
+    read_optional(l, at)?.ok_or(WrongColumn {
+        column: usize::from(at) + 2,
+    })
 }
 
 // 0 or 1.
-pub(crate) fn read_bit(l: &[u8], at: usize) -> Result<u32, usize>
-    requires { at ≤ 1000 }
-    ensures { result ≡ bit l.now at }
+pub(crate) fn read_bit(l: &[u8], at: u16) -> Result<bool, WrongColumn>
+    ensures { read_by bit_value result ≡ bit l.now at }
 {
-    let v = read_number(l, at)?;
-    if v < 2 { Ok(v) } else { Err(at + 2) }
+    match read_number(l, at)? {
+        0 => Ok(false),
+        1 => Ok(true),
+        _ => Err(WrongColumn {
+            column: usize::from(at) + 2,
+        }),
+    }
 }
 
 // A blank, and the name that follows it to the end of the line: a part of the line.
-pub(crate) fn read_name<'t>(l: &'t [u8], at: usize) -> Result<&'t [u8], usize>
-    requires { at ≤ 1000 }
-    ensures { ok_by (λ n. n.now) result ≡ name l.now at }
+pub(crate) fn read_name<'t>(l: &'t [u8], at: u16) -> Result<&'t [u8], WrongColumn>
+    ensures { read_by (λ n. n.now) result ≡ name l.now at }
 {
-    if at >= l.len() || l[at] != b' ' {
-        return Err(at + 2);
+    let at = usize::from(at);
+    let Some([b' ', name @ ..]) = l.get(at..) else {
+        return Err(WrongColumn { column: at + 2 });
+    };
+    if name.is_empty() || name.len() > 255 {
+        return Err(WrongColumn { column: at + 3 });
     }
-    if l.len() < at + 2 || l.len() > at + 256 {
-        return Err(at + 3);
-    }
-    Ok(&l[at + 1..])
+    Ok(name)
 }
 
 // The line ends there: else its column 1 is wrong.
-pub(crate) fn read_end(l: &[u8], at: usize) -> Result<(), usize>
-    ensures { result ≡ ended l.now at }
+pub(crate) fn read_end(l: &[u8], at: u16) -> Result<(), WrongColumn>
+    ensures { as_read result ≡ ended l.now at }
 {
-    if l.len() == at { Ok(()) } else { Err(1) }
+    if l.len() == usize::from(at) {
+        Ok(())
+    } else {
+        Err(WrongColumn { column: 1 })
+    }
 }

@@ -1,18 +1,17 @@
 -- What the table's answers say of the definitions.
-use Rattle.std.proofs.Common.{◌≡◌, ℕ, ◌+◌, ◌^◌, ◌<◌, ◌≤◌, Bool, false, cond, ◌&&◌, List, length, get_or, Some, None, Option, sym, refl, ap, ◌∙◌, ⊎_elim, arith}
+use Rattle.std.proofs.Common.{◌≡◌, ℕ, ◌+◌, ◌^◌, ◌<◌, ◌≤◌, Bool, false, ◌&&◌, List, length, get_or, Some, None, Option, sym, refl, ap, ◌∙◌, ⊎_elim, arith}
 use Rattle.std.specs.List.{slice_get}
-use Rattle.std.specs.Option.{option_map}
+use Rattle.std.specs.Option.{option_map, option_map_or}
 use Rattle.std.proofs.lemmas.Option.{slice_get-get_or, slice_get_past}
 use Rattle.std.proofs.lemmas.Bool.{cases_lt, lt-ltb, le-ltb}
 use Rattle.tables.specs.declared.parts.ModuleInfo.{ModuleInfo}
-use Rattle.tables.specs.declared.thing.ModuleList.TheVariants.{Loads}
 use Rattle.tables.specs.Value.{Module, Table}
 use Rattle.tables.specs.View.{view, no_module}
 use Rattle.tables.specs.Flags.{normal, included, flag}
-use Rattle.tables.specs.Asked.{info_of, table_module, item_at}
+use Rattle.tables.specs.Asked.{info_of, table_module}
 use Rattle.reach.specs.Shape.{NextSlot}
 use Rattle.definitions.specs.Bits.{usable}
-use Rattle.loads.specs.Loading.{usable_of, load_count, load_slot, load_shape}
+use Rattle.loads.specs.Loading.{load_count, load_slot, load_shape}
 
 -- ---- usable
 
@@ -32,28 +31,13 @@ usable_told t m =
     ∙ ap told (sym (slice_get_past t.modules m l)))
     (cases_lt m (length t.modules))
 
-pub usable_some : (t : Table) (m : ℕ) (info : ModuleInfo) → Some info ≡ table_module t m → (flag 1 info.flags && flag 2 info.flags) ≡ usable (view t) m
-usable_some t m info e = go (slice_get t.modules m) e ∙ sym (usable_told t m)
+pub usable_asked : (t : Table) (m : ℕ) (r : Option ModuleInfo) → r ≡ table_module t m
+    → option_map_or (λ i. flag 1 i.flags && flag 2 i.flags) r false ≡ usable (view t) m
+usable_asked t m r e = ap (λ o. option_map_or (λ i. flag 1 i.flags && flag 2 i.flags) o false) e ∙ go (slice_get t.modules m) ∙ sym (usable_told t m)
   where
-    go : (o : Option Module) → Some info ≡ option_map info_of o → (flag 1 info.flags && flag 2 info.flags) ≡ told o
-    go None e = let z : ◌≡◌ {A = ℕ} 0 1 = cc in absurd (omega arith)
-    go (Some x) e = let z : info.flags ≡ x.flags = cc in ap (λ f. flag 1 f && flag 2 f) z
-
-pub usable_none : (t : Table) (m : ℕ) → None ≡ table_module t m → false ≡ usable (view t) m
-usable_none t m e = go (slice_get t.modules m) e ∙ sym (usable_told t m)
-  where
-    go : (o : Option Module) → None ≡ option_map info_of o → false ≡ told o
-    go None e = refl
-    go (Some x) e = let z : ◌≡◌ {A = ℕ} 0 1 = cc in absurd (omega arith)
-
--- ---- the loads
-
-module _ (t : Table) (m i : ℕ) where
-  pub load_none : None ≡ item_at t Loads m i → None ≡ load_slot t m i
-  load_none e = ap (usable_of (view t)) e
-
-  pub load_some : (d : ℕ) (b : Bool) → Some d ≡ item_at t Loads m i → b ≡ usable (view t) d → cond b (Some d) None ≡ load_slot t m i
-  load_some d b e f = ap (λ x. cond x (Some d) None) f ∙ ap (usable_of (view t)) e
+    go : (o : Option Module) → option_map_or (λ i. flag 1 i.flags && flag 2 i.flags) (option_map info_of o) false ≡ told o
+    go None = refl
+    go (Some x) = refl
 
 -- ---- the next slot
 

@@ -1,6 +1,7 @@
 -- The graph of a table's load dependencies, cut down to the modules that are normal and included.
-use Rattle.std.specs.Prelude.{◌≡◌, ℕ, ◌<◌, Bool, true, false, cond, length, Some, None, Option, refl}
-use Rattle.std.proofs.Common.{ap, subst, arith}
+use Rattle.std.specs.Prelude.{◌≡◌, ℕ, ◌<◌, true, cond, length, Some, None, Option, option_and_then, refl}
+use Rattle.std.proofs.Common.{ap, subst}
+use Rattle.std.proofs.lemmas.Option.{none-some, cond_some}
 use Rattle.tables.specs.Value.{Table}
 use Rattle.tables.specs.View.{View, view}
 use Rattle.tables.specs.Asked.{items_of, item_at}
@@ -14,19 +15,11 @@ abbrev pub if_usable : View → ℕ → Option ℕ
 if_usable t d = cond (usable t d) (Some d) None
 
 abbrev pub usable_of : View → Option ℕ → Option ℕ
-usable_of t None = None
-usable_of t (Some d) = if_usable t d
-
-pub if_usable_some : (t : View) (d w : ℕ) → if_usable t d ≡ Some w → (d ≡ w) × (usable t d ≡ true)
-if_usable_some t d w e = go (usable t d) e
-  where
-    go : (b : Bool) → cond b (Some d) None ≡ Some w → (d ≡ w) × (b ≡ true)
-    go true e = (cc, refl)
-    go false e = let z : ◌≡◌ {A = ℕ} 0 1 = cc in absurd (omega arith)
+usable_of t o = option_and_then (if_usable t) o
 
 pub usable_of_some : (t : View) (o : Option ℕ) (w : ℕ) → usable_of t o ≡ Some w → (o ≡ Some w) × (usable t w ≡ true)
-usable_of_some t None w e = let z : ◌≡◌ {A = ℕ} 0 1 = cc in absurd (omega arith)
-usable_of_some t (Some d) w e = let p = if_usable_some t d w e in (ap Some p.0, subst (λ x. usable t x ≡ true) p.0 p.1)
+usable_of_some t None w e = absurd (none-some w e)
+usable_of_some t (Some d) w e = let p = cond_some (usable t d) d w e in (ap Some p.1, subst (λ x. usable t x ≡ true) p.1 p.0)
 
 -- how many modules m loads, and load i of it, if that is usable
 abbrev pub load_count : Table → ℕ → ℕ

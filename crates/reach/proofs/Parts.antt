@@ -1,5 +1,5 @@
 -- What a write to the marks or to the queue does to each part of the memory.
-use Rattle.std.proofs.Common.{◌≡◌, ℕ, ◌+◌, ◌-◌, ◌/◌, ◌%◌, ◌^◌, ◌<◌, ◌≤◌, Bool, true, false, ◌||◌, eqb, ◌≢◌, List, length, get_or, take, drop, set, MatchBool, sym, refl, ap, ◌∙◌, subst, zero-add, arith, length-drop, length-take, get_or-drop, get_or-take, take-take, drop-set-lt}
+use Rattle.std.proofs.Common.{◌≡◌, ℕ, ◌+◌, ◌-◌, ◌/◌, ◌%◌, ◌^◌, ◌<◌, ◌≤◌, true, false, ◌||◌, eqb, ◌≢◌, List, length, get_or, take, drop, set, sym, refl, ap, ◌∙◌, zero-add, arith, length-drop, length-take, get_or-drop, get_or-take, take-take, drop-set-lt}
 use mathlib.Core.Bool.{or-false}
 use native.Mathlib.Nat.{eq_of_mul-eq-mul_left}
 use lib.Bits.{bit_or}
@@ -105,12 +105,6 @@ frame_then f g = record {
 
 -- ---- what `find` does
 
-when_is : (P Q : Type 0) {b : Bool} → b ≡ true → P → MatchBool b P Q
-when_is P Q e p = subst (λ b. MatchBool b P Q) (sym e) p
-
-when_not : (P Q : Type 0) {b : Bool} → b ≡ false → Q → MatchBool b P Q
-when_not P Q e q = subst (λ b. MatchBool b P Q) (sym e) q
-
 module _ (ws : List ℕ) (p : Places) (w : ℕ) (s : Spot p w (length ws)) where
   pub marked_is : marked p ws w ≡ has ws p.marks (mark_bit p w)
   unfolding marked bit_of
@@ -142,11 +136,11 @@ module _ (ws : List ℕ) (p : Places) (w : ℕ) (s : Spot p w (length ws)) where
       others = λ u ne. bit_push (mark_bit p u) ∙ bit_stays (mark_bit p u) (apart p u w s.stride ne);
     }
 
-    pub found_new : has ws p.marks (mark_bit p w) ≡ false → Found (marked p ws) (queue_of p ws) tail w (marked p vs) (queue_of p vs) (tail + 1)
+    pub found_new : marked p ws w ≡ false → Found (marked p ws) (queue_of p ws) tail w (marked p vs) (queue_of p vs) (tail + 1)
     found_new h =
         let us = with_bit ws p.marks (mark_bit p w) in
         record {
-          how = when_not _ _ (marked_is ∙ h) (
+          how = rw h (
             marks_more,
             ap (drop p.queue) is ∙ drop-set-add p.queue us tail w ∙ ap (λ q. set q tail w) (mark_queue ws p.marks p.queue (mark_bit p w) s.within),
             refl,
@@ -167,5 +161,5 @@ module _ (ws : List ℕ) (p : Places) (w : ℕ) (s : Spot p w (length ws)) where
               ∙ mark_behind ws p.marks p.queue (mark_bit p w) n s.within;
         }
 
-  pub found_was : (tail : ℕ) → has ws p.marks (mark_bit p w) ≡ true → Found (marked p ws) (queue_of p ws) tail w (marked p ws) (queue_of p ws) tail
-  found_was tail h = record { how = when_is _ _ (marked_is ∙ h) (refl, refl, refl) }
+  pub found_was : (tail : ℕ) → marked p ws w ≡ true → Found (marked p ws) (queue_of p ws) tail w (marked p ws) (queue_of p ws) tail
+  found_was tail h = record { how = rw h (refl, refl, refl) }

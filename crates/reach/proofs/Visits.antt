@@ -1,18 +1,18 @@
 -- The needs of `visit` and `reach`, over plain values: shapes, words and numbers.
-use Rattle.std.proofs.Common.{◌≡◌, ℕ, ◌+◌, ◌-◌, ◌<◌, ◌≤◌, true, false, List, length, get_or, take, Some, None, Option, sym, ◌∙◌, subst, subst₂, arith, length-drop, get_or-drop}
+use Rattle.std.proofs.Common.{◌≡◌, ℕ, ◌+◌, ◌-◌, ◌<◌, ◌≤◌, true, false, List, length, get_or, take, drop, Some, None, Option, sym, refl, ◌∙◌, subst, subst₂, arith, length-drop, get_or-drop}
 use Rattle.rows.specs.Bits.{count}
 use Rattle.rows.proofs.Counts.{count_room, count_le}
 use Rattle.reach.specs.declared.Places.{Places}
 use Rattle.reach.specs.declared.Slot.{Slot}
 use Rattle.reach.specs.Paths.{Closed, Reached}
 use Rattle.reach.specs.Shape.{Shape, EdgeIn, Edge, FirstIn, NextIn, NextSlot}
-use Rattle.reach.specs.Walk.{Found, Goes}
+use Rattle.reach.specs.Walk.{State, Found, Goes, Looked}
 use Rattle.reach.specs.Memory.{marked, queue_of, Room, Spot, Frame, Ready}
-use Rattle.reach.specs.Steps.{SlotsDone, Walked}
-use Rattle.reach.proofs.Walks.{looked_none, looked_next, looked_all, found_few, goes_none, goes_on, walk_node, walk_ends}
+use Rattle.reach.specs.Steps.{Visited}
+use Rattle.reach.proofs.Walks.{looked_none, looked_next, looked_all, found_few, found_begins, ends, walk_on}
 use Rattle.reach.proofs.Parts.{front_kept, spot, frame_none, frame_then}
 
--- ---- a graph asked again, of a source that means what it did, with the words below its limit as they were
+-- ---- a graph asked again, which means what it did, with the words below its limit as they were
 
 pub next_same : (s s₂ : Shape) (ws ws' : List ℕ) (v from : ℕ) (r : Option Slot) → s₂ ≡ s → take s.limit ws' ≡ take s.limit ws
     → NextSlot s₂ ws' v from r → NextSlot s ws v from r
@@ -29,128 +29,141 @@ ready_asks {p} {s} {s₂} {n} v same ready =
 
 -- ---- the loop over the slots of a node
 
-module _ (p : Places) (s : Shape) (ws : List ℕ) (v tail : ℕ) (ready : Ready p s (length ws) v) where
-  pub slots_begin : tail ≤ count (marked p ws) s.nodes → SlotsDone p s ws v tail 0 ws tail
-  slots_begin few = record { looked = looked_none _ _ _ _ _ _ _ few; frame = frame_none _ _ _ }
+-- the slots of v before `from` have been looked at: the shape was s and is s₂, the words were ws and are ws'
+pub record SlotsDone (p : Places) (s : Shape) (ws : List ℕ) (v tail : ℕ) (s₂ : Shape) (ws' : List ℕ) (from end : ℕ) : Type 0 where
+  pub ready : Ready p s (length ws) v
+  pub same : s₂ ≡ s
+  pub long : length ws' ≡ length ws
+  pub looked : Looked (Edge s ws) s.nodes v (s.slot (take s.limit ws) v) (marked p ws) (queue_of p ws) tail from (marked p ws') (queue_of p ws') end
+  pub frame : Frame p s.nodes ws ws'
 
-  -- at a turn the source's shape is s₂
-  module _ (s₂ : Shape) (same : s₂ ≡ s) (ws' : List ℕ) (from end : ℕ) (long : length ws' ≡ length ws) (inv : SlotsDone p s ws v tail from ws' end) where
-    front : take s.limit ws' ≡ take s.limit ws
-    front = front_kept ws ws' s.limit p.marks ready.limit inv.frame.below
+pub slots_begin : (p : Places) (s : Shape) (ws : List ℕ) (v tail : ℕ) → Ready p s (length ws) v → tail ≤ count (marked p ws) s.nodes → SlotsDone p s ws v tail s ws 0 tail
+slots_begin p s ws v tail ready few = record { ready = ready; same = refl; long = refl; looked = looked_none _ _ _ _ _ _ _ few; frame = frame_none _ _ _ }
 
-    pub slot_asks : (s₂.limit ≤ length ws') × (v < s₂.nodes)
-    slot_asks = ready_asks v same (subst (λ n. Ready p s n v) (sym long) ready)
+module _ {p : Places} {s : Shape} {ws : List ℕ} {v tail : ℕ} {s₂ : Shape} {ws' : List ℕ} {from end : ℕ} (d : SlotsDone p s ws v tail s₂ ws' from end) where
+  front : take s.limit ws' ≡ take s.limit ws
+  front = front_kept ws ws' s.limit p.marks d.ready.limit d.frame.below
 
-    -- no slot is left
-    pub slots_end : NextSlot s₂ ws' v from None
-        → (end ≤ count (marked p ws') s.nodes)
-        × ((w : ℕ) → Edge s ws v w → marked p ws' w ≡ true)
-        × ((head : ℕ) → Goes (Edge s ws) s.nodes (marked p ws) (queue_of p ws) head tail (Some v) (marked p ws') (queue_of p ws') head end (Some v))
-        × Frame p s.nodes ws ws'
-    slots_end told = (
-      inv.looked.few,
-      λ w x. looked_all inv.looked _ (next_same s s₂ ws ws' v from None same front told) x.index w x.below x.holds,
-      inv.looked.goes,
-      inv.frame,
-    )
+  pub slot_asks : (s₂.limit ≤ length ws') × (v < s₂.nodes)
+  slot_asks = ready_asks v d.same (subst (λ n. Ready p s n v) (sym d.long) d.ready)
 
-    module _ (found : Slot) (told : NextSlot s₂ ws' v from (Some found)) where
-      at_first : FirstIn s (take s.limit ws) v from found
-      at_first = next_same s s₂ ws ws' v from (Some found) same front told
+  -- no slot is left
+  pub slots_end : NextSlot s₂ ws' v from None → Visited p s ws tail v ws' end
+  slots_end told = record {
+    few = d.looked.few;
+    full = λ w x. looked_all d.looked _ (next_same s s₂ ws ws' v from None d.same front told) x.index w x.below x.holds;
+    goes = d.looked.goes;
+    frame = d.frame;
+  }
 
-      inside : found.node < s.nodes
-      inside = s.inside (take s.limit ws) v found.index found.node at_first.below at_first.holds
+  module _ (found : Slot) (told : NextSlot s₂ ws' v from (Some found)) where
+    at_first : FirstIn s (take s.limit ws) v from found
+    at_first = next_same s s₂ ws ws' v from (Some found) d.same front told
 
-      room_in : marked p ws' found.node ≡ false → end < s.nodes
-      room_in new = let few = inv.looked.few in omega (arith, count_room (marked p ws') s.nodes found.node inside new)
+    inside : found.node < s.nodes
+    inside = s.inside (take s.limit ws) v found.index found.node at_first.below at_first.holds
 
-      pub slot_spot : Spot p found.node (length ws')
-      slot_spot = subst (Spot p found.node) (sym long) (spot p s.nodes found.node (length ws) ready.room inside)
+    room_in : marked p ws' found.node ≡ false → end < s.nodes
+    room_in new = let few = d.looked.few in omega (arith, count_room (marked p ws') s.nodes found.node inside new)
 
-      pub slot_room : marked p ws' found.node ≡ false → p.queue + end < length ws'
-      slot_room new = let queue = ready.room.queue in omega (arith, room_in new)
+    pub slot_spot : Spot p found.node (length ws')
+    slot_spot = subst (Spot p found.node) (sym d.long) (spot p s.nodes found.node (length ws) d.ready.room inside)
 
-      pub slot_done : {ws'' : List ℕ} {end' : ℕ} → Found (marked p ws') (queue_of p ws') end found.node (marked p ws'') (queue_of p ws'') end'
-          → ((n : ℕ) → found.node < n → (marked p ws' found.node ≡ false → end < n) → Frame p n ws' ws'')
-          → SlotsDone p s ws v tail (found.index + 1) ws'' end'
-      slot_done f frame =
-          let queue = ready.room.queue in
-          record {
-            looked = looked_next inv.looked f at_first.empty at_first.holds
-                (record { node = ready.node; index = found.index; below = at_first.below; holds = at_first.holds })
-                inside (omega (arith, length-drop p.queue ws'));
-            frame = frame_then inv.frame (frame s.nodes inside room_in);
-          }
+    pub slot_room : marked p ws' found.node ≡ false → p.queue + end < length ws'
+    slot_room new = let queue = d.ready.room.queue in let long = d.long in omega (arith, room_in new)
 
-      -- fewer slots are left
-      pub slot_less : s.slots (take s.limit ws) v - (found.index + 1) < s.slots (take s.limit ws) v - from
-      slot_less = let after = at_first.after in let below = at_first.below in omega arith
+    pub slot_done : {s₃ : Shape} {ws'' : List ℕ} {end' : ℕ} → s₃ ≡ s₂ → length ws'' ≡ length ws'
+        → Found (marked p ws') (queue_of p ws') end found.node (marked p ws'') (queue_of p ws'') end'
+        → ((n : ℕ) → found.node < n → (marked p ws' found.node ≡ false → end < n) → Frame p n ws' ws'')
+        → SlotsDone p s ws v tail s₃ ws'' (found.index + 1) end'
+    slot_done turn long' f frame =
+        let queue = d.ready.room.queue in
+        let long = d.long in
+        record {
+          ready = d.ready;
+          same = turn ∙ d.same;
+          long = long' ∙ d.long;
+          looked = looked_next d.looked f at_first.empty at_first.holds
+              (record { node = d.ready.node; index = found.index; below = at_first.below; holds = at_first.holds })
+              inside (omega (arith, length-drop p.queue ws'));
+          frame = frame_then d.frame (frame s.nodes inside room_in);
+        }
+
+    -- fewer slots are left
+    pub slot_less : s.slots (take s.limit ws) v - (found.index + 1) < s.slots (take s.limit ws) v - from
+    slot_less = let after = at_first.after in let below = at_first.below in omega arith
 
 -- ---- the loop over the queue
 
-module _ (p : Places) (s : Shape) (ws₀ : List ℕ) (start : ℕ) (ready : Ready p s (length ws₀) start) where
-  pub walk_spot : Spot p start (length ws₀)
-  walk_spot = spot p s.nodes start (length ws₀) ready.room ready.node
+-- the nodes in the queue before `head` have been looked at
+pub record Walked (p : Places) (s : Shape) (ws : List ℕ) (start : ℕ) (s₂ : Shape) (ws' : List ℕ) (head tail : ℕ) : Type 0 where
+  pub ready : Ready p s (length ws) start
+  pub closed : Closed (Edge s ws) (marked p ws)
+  pub same : s₂ ≡ s
+  pub long : length ws' ≡ length ws
+  pub room : tail ≤ s.nodes
+  pub few : tail ≤ count (marked p ws') s.nodes
+  pub state : State (Edge s ws) s.nodes (marked p ws) start (marked p ws') (queue_of p ws') head tail None
+  pub frame : Frame p s.nodes ws ws'
 
-  pub walk_room : p.queue + 0 < length ws₀
-  walk_room = let queue = ready.room.queue in let node = ready.node in omega arith
+module _ (p : Places) (s : Shape) (ws : List ℕ) (start : ℕ) (ready : Ready p s (length ws) start) where
+  pub start_spot : Spot p start (length ws)
+  start_spot = spot p s.nodes start (length ws) ready.room ready.node
 
-  module _ (closed : Closed (Edge s ws₀) (marked p ws₀)) (ws : List ℕ) (tail : ℕ) (long₁ : length ws ≡ length ws₀)
-      (f : Found (marked p ws₀) (queue_of p ws₀) 0 start (marked p ws) (queue_of p ws) tail)
-      (frame₁ : (n : ℕ) → start < n → (marked p ws₀ start ≡ false → 0 < n) → Frame p n ws₀ ws) where
-    first : Frame p s.nodes ws₀ ws
-    first = let node = ready.node in frame₁ s.nodes ready.node (λ _. omega arith)
+  pub start_room : p.queue + 0 < length ws
+  start_room = let queue = ready.room.queue in let node = ready.node in omega arith
 
-    pub walk_begins : Walked p s ws tail ws 0 tail
-    walk_begins =
-        let few = found_few f s.nodes ready.node (omega arith) in
-        record { room = omega (arith, count_le (marked p ws) s.nodes); few = few; goes = goes_none _ _ _ _ _ _ _; frame = frame_none _ _ _ }
+  pub walk_begins : (ws' : List ℕ) (tail : ℕ) → Closed (Edge s ws) (marked p ws) → length ws' ≡ length ws
+      → Found (marked p ws) (queue_of p ws) 0 start (marked p ws') (queue_of p ws') tail
+      → ((n : ℕ) → start < n → (marked p ws start ≡ false → 0 < n) → Frame p n ws ws')
+      → Walked p s ws start s ws' 0 tail
+  walk_begins ws' tail closed long f frame =
+      let queue = ready.room.queue in
+      let node = ready.node in
+      let few = found_few f s.nodes ready.node (omega arith) in
+      record {
+        ready = ready;
+        closed = closed;
+        same = refl;
+        long = long;
+        room = omega (arith, count_le (marked p ws') s.nodes);
+        few = few;
+        state = found_begins (Edge s ws) s.nodes closed ready.node (omega (arith, length-drop p.queue ws)) f;
+        frame = frame s.nodes ready.node (λ _. omega arith);
+      }
 
-    -- the edges are those that were there at the first
-    edges : (us : List ℕ) → Frame p s.nodes ws₀ us → take s.limit us ≡ take s.limit ws₀
-    edges us g = front_kept ws₀ us s.limit p.marks ready.limit g.below
+module _ {p : Places} {s : Shape} {ws : List ℕ} {start : ℕ} {s₂ : Shape} {ws' : List ℕ} {head tail : ℕ} (d : Walked p s ws start s₂ ws' head tail) where
+  pub walk_stops : tail ≤ head → Reached (Edge s ws) start (marked p ws) (marked p ws')
+  walk_stops h = ends (Edge s ws) s.nodes (marked p ws) d.closed start (marked p ws') (queue_of p ws') head tail h d.state
 
-    module _ (s₂ : Shape) (e₂ : s₂ ≡ s) (ws' : List ℕ) (head' tail' : ℕ) (long : length ws' ≡ length ws₀) (inv : Walked p s ws tail ws' head' tail') where
-      goes₀ : Goes (Edge s ws₀) s.nodes (marked p ws) (queue_of p ws) 0 tail None (marked p ws') (queue_of p ws') head' tail' None
-      goes₀ =
-          subst (λ us. Goes (EdgeIn s us) s.nodes (marked p ws) (queue_of p ws) 0 tail None (marked p ws') (queue_of p ws') head' tail' None)
-          (edges ws first) inv.goes
+  module _ (more : head < tail) where
+    -- the node that is looked at
+    abbrev pub first : ℕ
+    first = get_or (drop p.queue ws') head 0
 
-      pub walk_stops : tail' ≤ head' → Reached (Edge s ws₀) start (marked p ws₀) (marked p ws') × Frame p s.nodes ws₀ ws'
-      walk_stops h =
-          let queue = ready.room.queue in
-          (walk_ends (Edge s ws₀) s.nodes closed ready.node (omega (arith, length-drop p.queue ws₀)) f goes₀ h, frame_then first inv.frame)
+    first_is : first ≡ get_or ws' (p.queue + head) 0
+    first_is = get_or-drop p.queue ws' head 0
 
-      module _ (more : head' < tail') where
-        node : get_or ws' (p.queue + head') 0 < s.nodes
-        node =
-            let queue = ready.room.queue in
-            subst (λ x. x < s.nodes) (get_or-drop p.queue ws' head' 0)
-            (walk_node (Edge s ws₀) s.nodes closed ready.node (omega (arith, length-drop p.queue ws₀)) f goes₀ more)
+    pub walk_asks : Ready p s₂ (length ws') (get_or ws' (p.queue + head) 0) × (tail ≤ count (marked p ws') s₂.nodes)
+    walk_asks =
+        subst₂ (λ t u. Ready p t (length ws') u × (tail ≤ count (marked p ws') t.nodes)) (sym d.same) first_is
+        (record { node = (d.state.queued head more).0; limit = d.ready.limit; room = subst (Room p s.nodes) (sym d.long) d.ready.room }, d.few)
 
-        pub walk_asks : Ready p s₂ (length ws') (get_or ws' (p.queue + head') 0) × (tail' ≤ count (marked p ws') s₂.nodes)
-        walk_asks =
-            subst (λ t. Ready p t (length ws') (get_or ws' (p.queue + head') 0) × (tail' ≤ count (marked p ws') t.nodes)) (sym e₂)
-            (record { node = node; limit = ready.limit; room = subst (Room p s.nodes) (sym long) ready.room }, inv.few)
-
-        pub walk_again : (ws'' : List ℕ) (tail'' : ℕ) → tail'' ≤ count (marked p ws'') s₂.nodes
-            → ((w : ℕ) → Edge s₂ ws' (get_or ws' (p.queue + head') 0) w → marked p ws'' w ≡ true)
-            → ((head : ℕ) → Goes (Edge s₂ ws') s₂.nodes (marked p ws') (queue_of p ws') head tail' (Some (get_or ws' (p.queue + head') 0)) (marked p ws'') (queue_of p ws'') head tail'' (Some (get_or ws' (p.queue + head') 0)))
-            → Frame p s₂.nodes ws' ws''
-            → Walked p s ws tail ws'' (head' + 1) tail''
-        walk_again ws'' tail'' few full goes frame =
-            let V : Shape → List ℕ → ℕ → Type 0 =
-            λ t us v. (tail'' ≤ count (marked p ws'') t.nodes)
-            × ((w : ℕ) → EdgeIn t us v w → marked p ws'' w ≡ true)
-            × Goes (EdgeIn t us) t.nodes (marked p ws') (queue_of p ws') (head' + 1) tail' (Some v) (marked p ws'') (queue_of p ws'') (head' + 1) tail'' (Some v)
-            × Frame p t.nodes ws' ws'' in
-            let at : V s (take s.limit ws') (get_or ws' (p.queue + head') 0) =
-            subst (λ t. V t (take t.limit ws') (get_or ws' (p.queue + head') 0)) e₂ (few, full, goes (head' + 1), frame) in
-            let same : take s.limit ws' ≡ take s.limit ws = edges ws' (frame_then first inv.frame) ∙ sym (edges ws first) in
-            let d = subst₂ (V s) same (sym (get_or-drop p.queue ws' head' 0)) at in
-            record {
-              room = omega (arith, d.0, count_le (marked p ws'') s.nodes);
-              few = d.0;
-              goes = goes_on inv.goes more d.2 d.1;
-              frame = frame_then inv.frame d.3;
-            }
+    pub walk_again : {s₃ : Shape} {ws'' : List ℕ} {tail' : ℕ} → s₃ ≡ s₂ → length ws'' ≡ length ws'
+        → Visited p s₂ ws' tail (get_or ws' (p.queue + head) 0) ws'' tail' → Walked p s ws start s₃ ws'' (head + 1) tail'
+    walk_again {ws'' = ws''} {tail' = tail'} turn long visited =
+        let at : Visited p s ws' tail first ws'' tail' = subst₂ (λ t u. Visited p t ws' tail u ws'' tail') d.same (sym first_is) visited in
+        let Seen : List ℕ → Type 0 =
+        λ us. ((w : ℕ) → EdgeIn s us first w → marked p ws'' w ≡ true)
+        × Goes (EdgeIn s us) s.nodes (marked p ws') (queue_of p ws') (head + 1) tail (Some first) (marked p ws'') (queue_of p ws'') (head + 1) tail' (Some first) in
+        let seen = subst Seen (front_kept ws ws' s.limit p.marks d.ready.limit d.frame.below) (at.full, at.goes (head + 1)) in
+        record {
+          ready = d.ready;
+          closed = d.closed;
+          same = turn ∙ d.same;
+          long = long ∙ d.long;
+          room = omega (arith, at.few, count_le (marked p ws'') s.nodes);
+          few = at.few;
+          state = walk_on d.closed more d.state seen.1 seen.0;
+          frame = frame_then d.frame at.frame;
+        }

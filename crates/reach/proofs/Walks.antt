@@ -2,18 +2,13 @@
 use Rattle.std.proofs.Common.{◌≡◌, ℕ, ◌+◌, ◌<◌, ◌≤◌, Bool, true, false, ◌⊎◌, List, length, get_or, set, Some, None, Option, sym, refl, ap, ◌∙◌, subst, subst₂, inl, inr, ⊎_elim, arith}
 use mathlib.Core.Path.{subst₃}
 use Rattle.std.proofs.lemmas.List.{get_or-set_same, get_or-set_other}
+use Rattle.std.proofs.lemmas.Option.{none-some, same_Some}
 use Rattle.std.proofs.lemmas.Bool.{cases_eq, cases_lt, cases_Bool, both_ways}
 use Rattle.std.proofs.lemmas.Bool.Decides.{when_true, when_false}
 use Rattle.rows.specs.Bits.{count}
 use Rattle.rows.proofs.Counts.{count_room, count_one_more}
 use Rattle.reach.specs.Paths.{Way, here, step, Closed, Reached}
 use Rattle.reach.specs.Walk.{Waits, State, OneMore, Found, Goes, Looked}
-
-pub none≢some : {u : ℕ} → ◌≡◌ {A = Option ℕ} None (Some u) → ⊥
-none≢some e = let z : ◌≡◌ {A = ℕ} 0 1 = cc in omega arith
-
-pub some_same : {u v : ℕ} → ◌≡◌ {A = Option ℕ} (Some u) (Some v) → u ≡ v
-some_same e = cc
 
 -- ---- a closed set of marks
 
@@ -57,7 +52,7 @@ module _ (edge : ℕ → ℕ → Type 0) (n : ℕ) (old : ℕ → Bool) (closed 
         kept = grows old mark start m;
         sound = λ u h. ⊎_elim (λ (e : u ≡ start). inr (subst (Way edge start) (sym e) here)) inl (new_or_old old mark start m u h);
         queued = λ k l. let z : k ≡ 0 = omega arith in subst (Sits n mark) (sym (ap (λ j. get_or (set queue 0 start) j 0) z ∙ at)) (h, m.new);
-        looked = λ u b. absurd (none≢some b);
+        looked = λ u b. absurd (none-some u b);
         done = λ u h. ⊎_elim (λ (e : u ≡ start). inl (0, omega arith, omega arith, at ∙ sym e))
             (λ (o : old u ≡ true). inr (inr (λ w e. grows old mark start m w (closed u w o e)))) (new_or_old old mark start m u h);
       }
@@ -70,7 +65,7 @@ module _ (edge : ℕ → ℕ → Type 0) (n : ℕ) (old : ℕ → Bool) (closed 
     kept = λ u o. o;
     sound = λ u o. inl o;
     queued = λ k l. absurd (omega arith);
-    looked = λ u b. absurd (none≢some b);
+    looked = λ u b. absurd (none-some u b);
     done = λ u o. inr (inr (λ w e. closed u w o e));
   }
 
@@ -83,13 +78,13 @@ module _ (edge : ℕ → ℕ → Type 0) (n : ℕ) (old : ℕ → Bool) (closed 
     kept = s.kept;
     sound = s.sound;
     queued = s.queued;
-    looked = λ u b. ap mark (sym (some_same b)) ∙ (s.queued head h).1;
+    looked = λ u b. ap mark (sym (same_Some _ u b)) ∙ (s.queued head h).1;
     done = λ u m.
         ⊎_elim
         (λ (x : Waits queue head tail u).
         ⊎_elim (λ (e : x.0 ≡ head). inr (inl (ap Some (sym (ap (λ j. get_or queue j 0) e) ∙ x.3))))
         (λ (ne : x.0 ≡ head → ⊥). inl (x.0, omega arith, x.2, x.3)) (cases_eq x.0 head))
-        (⊎_elim (λ b. absurd (none≢some b)) (λ d. inr (inr d))) (s.done u m);
+        (⊎_elim (λ b. absurd (none-some u b)) (λ d. inr (inr d))) (s.done u m);
   }
 
   -- each node that it leads to is marked
@@ -101,8 +96,8 @@ module _ (edge : ℕ → ℕ → Type 0) (n : ℕ) (old : ℕ → Bool) (closed 
     kept = s.kept;
     sound = s.sound;
     queued = s.queued;
-    looked = λ u b. absurd (none≢some b);
-    done = λ u m. ⊎_elim inl (⊎_elim (λ (b : Some v ≡ Some u). inr (inr (λ w e. all w (subst (λ x. edge x w) (sym (some_same b)) e)))) (λ d. inr (inr d))) (s.done u m);
+    looked = λ u b. absurd (none-some u b);
+    done = λ u m. ⊎_elim inl (⊎_elim (λ (b : Some v ≡ Some u). inr (inr (λ w e. all w (subst (λ x. edge x w) (sym (same_Some _ u b)) e)))) (λ d. inr (inr d))) (s.done u m);
   }
 
   -- one node is found
@@ -141,7 +136,7 @@ module _ (edge : ℕ → ℕ → Type 0) (n : ℕ) (old : ℕ → Bool) (closed 
   pub ends : (mark : ℕ → Bool) (queue : List ℕ) (head tail : ℕ) → tail ≤ head → State edge n old start mark queue head tail None → Reached edge start old mark
   ends mark queue head tail h s =
       closed_reached start old mark
-      (λ v w m e. ⊎_elim (λ (x : Waits queue head tail v). absurd (omega arith)) (⊎_elim (λ b. absurd (none≢some b)) (λ d. d w e)) (s.done v m))
+      (λ v w m e. ⊎_elim (λ (x : Waits queue head tail v). absurd (omega arith)) (⊎_elim (λ b. absurd (none-some v b)) (λ d. d w e)) (s.done v m))
       s.began s.kept s.sound
 
 -- ---- what `find` does
@@ -207,10 +202,10 @@ module _ {edge : ℕ → ℕ → Type 0} {n v : ℕ} {slot : ℕ → Option ℕ}
   looked_next {k} {w} {mark'} f empty is e small room = record {
     few = found_few f n small l.few;
     full = λ j u h at.
-        ⊎_elim (λ (q : j ≡ k). subst (λ x. mark' x ≡ true) (some_same (sym is ∙ ap slot (sym q) ∙ at)) (found_marked f))
+        ⊎_elim (λ (q : j ≡ k). subst (λ x. mark' x ≡ true) (same_Some w u (sym is ∙ ap slot (sym q) ∙ at)) (found_marked f))
         (λ (ne : j ≡ k → ⊥).
         ⊎_elim (λ (b : j < i). found_grows f u (l.full j u b at))
-        (λ (b : i ≤ j). absurd (none≢some (sym (empty j b (omega arith)) ∙ at))) (cases_lt j i)) (cases_eq j k);
+        (λ (b : i ≤ j). absurd (none-some u (sym (empty j b (omega arith)) ∙ at))) (cases_lt j i)) (cases_eq j k);
     goes = λ head. record {
       goes = λ old start closed s.
           (found_goes f edge n v head e small room l.few).goes old start closed ((l.goes head).goes old start closed s);
@@ -220,29 +215,16 @@ module _ {edge : ℕ → ℕ → Type 0} {n v : ℕ} {slot : ℕ → Option ℕ}
   -- the slots from i on are empty
   pub looked_all : (m : ℕ) → ((j : ℕ) → i ≤ j → j < m → slot j ≡ None) → (j w : ℕ) → j < m → slot j ≡ Some w → mark w ≡ true
   looked_all m empty j w h is =
-      ⊎_elim (λ (b : j < i). l.full j w b is) (λ (b : i ≤ j). absurd (none≢some (sym (empty j b h) ∙ is))) (cases_lt j i)
+      ⊎_elim (λ (b : j < i). l.full j w b is) (λ (b : i ≤ j). absurd (none-some w (sym (empty j b h) ∙ is))) (cases_lt j i)
 
 -- ---- the loop over the queue
 
-pub goes_on : {edge : ℕ → ℕ → Type 0} {n : ℕ} {mark₀ : ℕ → Bool} {queue₀ : List ℕ} {head₀ tail₀ : ℕ} {mark : ℕ → Bool} {queue : List ℕ} {head tail : ℕ} {mark' : ℕ → Bool} {queue' : List ℕ} {tail' : ℕ}
-    → Goes edge n mark₀ queue₀ head₀ tail₀ None mark queue head tail None → head < tail
+-- the next node of the queue is looked at, and each node that an edge leads to from it is marked
+pub walk_on : {edge : ℕ → ℕ → Type 0} {n : ℕ} {old : ℕ → Bool} {start : ℕ} {mark : ℕ → Bool} {queue : List ℕ} {head tail : ℕ} {mark' : ℕ → Bool} {queue' : List ℕ} {tail' : ℕ}
+    → Closed edge old → head < tail → State edge n old start mark queue head tail None
     → Goes edge n mark queue (head + 1) tail (Some (get_or queue head 0)) mark' queue' (head + 1) tail' (Some (get_or queue head 0))
     → ((w : ℕ) → edge (get_or queue head 0) w → mark' w ≡ true)
-    → Goes edge n mark₀ queue₀ head₀ tail₀ None mark' queue' (head + 1) tail' None
-goes_on {edge} {n} {queue = queue} {head = head} {tail = tail} before h visited full = record {
-  goes = λ old start closed s.
-      let s₁ = takes edge n old closed start _ queue head tail h (before.goes old start closed s) in
-      leaves edge n old closed start _ _ (head + 1) _ (get_or queue head 0) (visited.goes old start closed s₁) full;
-}
-
-module _ (edge : ℕ → ℕ → Type 0) (n : ℕ) {mark : ℕ → Bool} {queue : List ℕ} {start : ℕ} {mark₀ : ℕ → Bool} {queue₀ : List ℕ} {tail₀ : ℕ} {mark' : ℕ → Bool} {queue' : List ℕ} {head tail : ℕ}
-    (closed : Closed edge mark) (small : start < n) (room : n ≤ length queue)
-    (f : Found mark queue 0 start mark₀ queue₀ tail₀) (g : Goes edge n mark₀ queue₀ 0 tail₀ None mark' queue' head tail None) where
-  walk_now : State edge n mark start mark' queue' head tail None
-  walk_now = g.goes mark start closed (found_begins edge n closed small room f)
-
-  pub walk_node : head < tail → get_or queue' head 0 < n
-  walk_node h = (walk_now.queued head h).0
-
-  pub walk_ends : tail ≤ head → Reached edge start mark mark'
-  walk_ends h = ends edge n mark closed start mark' queue' head tail h walk_now
+    → State edge n old start mark' queue' (head + 1) tail' None
+walk_on {edge} {n} {old} {start} {queue = queue} {head = head} {tail = tail} closed h s visited full =
+    leaves edge n old closed start _ _ (head + 1) _ (get_or queue head 0)
+    (visited.goes old start closed (takes edge n old closed start _ queue head tail h s)) full

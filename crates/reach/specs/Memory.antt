@@ -4,6 +4,7 @@
 use Rattle.std.specs.Prelude.{◌≡◌, ℕ, ◌+◌, ◌-◌, ◌*◌, ◌/◌, ◌^◌, ◌<◌, ◌≤◌, Bool, List, take, drop, ◌≢◌, slice_index, slice_range}
 use Rattle.rows.specs.Bits.{has}
 use Rattle.reach.specs.declared.Places.{Places}
+use Rattle.reach.specs.declared.RowMarks.{RowMarks}
 use Rattle.reach.specs.Shape.{Shape}
 
 unfoldable pub marks_of : ℕ → ℕ → List ℕ → List ℕ
@@ -18,6 +19,10 @@ bit_of p ws j = has (marks_of p.marks p.queue ws) 0 j
 
 unfoldable pub marked : Places → List ℕ → ℕ → Bool
 marked p ws u = bit_of p ws (mark_bit p u)
+
+-- marks in a row of their own: bit u is the mark of node u
+abbrev pub row_places : RowMarks → Places
+row_places r = record { marks = r.marks; stride = 1; column = 0; queue = r.queue }
 
 abbrev pub queue_of : Places → List ℕ → List ℕ
 queue_of p ws = drop p.queue ws

@@ -1,19 +1,27 @@
--- What holds at each turn of the two loops of a walk.
-use Rattle.std.specs.Prelude.{ℕ, ◌≤◌, List, take, None}
+-- What a walk over a graph of the shape s does to the words of a memory, and what each step of it does.
+use Rattle.std.specs.Prelude.{◌≡◌, ℕ, ◌≤◌, true, List, Some}
 use Rattle.rows.specs.Bits.{count}
 use Rattle.reach.specs.declared.Places.{Places}
+use Rattle.reach.specs.Paths.{Closed, Reached}
 use Rattle.reach.specs.Shape.{Shape, Edge}
-use Rattle.reach.specs.Walk.{Goes, Looked}
+use Rattle.reach.specs.Walk.{Found, Goes}
 use Rattle.reach.specs.Memory.{marked, queue_of, Frame}
 
--- the slots of v before `from` have been looked at: the words were ws, and are ws'
-pub record SlotsDone (p : Places) (s : Shape) (ws : List ℕ) (v tail from : ℕ) (ws' : List ℕ) (end : ℕ) : Type 0 where
-  pub looked : Looked (Edge s ws) s.nodes v (s.slot (take s.limit ws) v) (marked p ws) (queue_of p ws) tail from (marked p ws') (queue_of p ws') end
-  pub frame : Frame p s.nodes ws ws'
+-- the marks are closed under the edges
+abbrev pub MarksClosed : Places → Shape → List ℕ → Type 0
+MarksClosed p s ws = Closed (Edge s ws) (marked p ws)
 
--- no more nodes stand in the queue than are marked, the walk goes on, and what is not the walk's stays
-pub record Walked (p : Places) (s : Shape) (ws : List ℕ) (tail : ℕ) (ws' : List ℕ) (head' tail' : ℕ) : Type 0 where
-  pub room : tail' ≤ s.nodes
-  pub few : tail' ≤ count (marked p ws') s.nodes
-  pub goes : Goes (Edge s ws) s.nodes (marked p ws) (queue_of p ws) 0 tail None (marked p ws') (queue_of p ws') head' tail' None
-  pub frame : Frame p s.nodes ws ws'
+-- what can be reached from `start` is marked, and what was marked before: the words were ws, and are vs
+abbrev pub MarksReached : Places → Shape → ℕ → List ℕ → List ℕ → Type 0
+MarksReached p s start ws vs = Reached (Edge s ws) start (marked p ws) (marked p vs)
+
+-- the node w is marked and put at the queue's end, unless it was marked
+abbrev pub FoundNode : Places → ℕ → ℕ → List ℕ → List ℕ → ℕ → Type 0
+FoundNode p tail w ws vs end = Found (marked p ws) (queue_of p ws) tail w (marked p vs) (queue_of p vs) end
+
+-- each node that an edge from v leads to is marked, what was a walk is one still, and what is not the walk's stays
+pub record Visited (p : Places) (s : Shape) (ws : List ℕ) (tail v : ℕ) (vs : List ℕ) (end : ℕ) : Type 0 where
+  pub few : end ≤ count (marked p vs) s.nodes
+  pub full : (w : ℕ) → Edge s ws v w → marked p vs w ≡ true
+  pub goes : (head : ℕ) → Goes (Edge s ws) s.nodes (marked p ws) (queue_of p ws) head tail (Some v) (marked p vs) (queue_of p vs) head end (Some v)
+  pub frame : Frame p s.nodes ws vs

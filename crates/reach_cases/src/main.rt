@@ -1,66 +1,68 @@
-// Walks over a graph of five nodes: 0 to 1, 1 to 2, 3 to 0, and 4 alone. The rows of the graph stand in the words 0 to 19,
-// the row of barred nodes at 20, that of starts at 24, the marks at 28 and the queue at 32.
+// Walks over a graph of five nodes: 0 to 1, 1 to 2, 3 to 0, and 4 alone. All stands in forty words: the rows of the graph,
+// the row of barred nodes, that of starts, the marks and the queue.
 #![tactic(auto)]
 
-ghost use Rattle.std.specs.Prelude.{◌≡◌, ◌<◌, length};
+ghost use Rattle.std.specs.Prelude.{◌<◌};
 
-use graphs::adjacency::{RowsAt, RowsUnless};
+use graphs::adjacency::{RowsAt, Unless};
 use graphs::cover::uncovered;
 use graphs::cycles::has_cycle;
-use reach::{Places, reach};
+use reach::{Places, RowMarks, reach};
 use rows::{erase, set};
 use std::io;
 
+const ROWS: RowsAt = RowsAt { at: 0, nodes: 5 };
+
+const BARRED: usize = 20;
+
+const STARTS: usize = 24;
+
+const MARKS: RowMarks = RowMarks {
+    marks: 28,
+    queue: 32,
+};
+
 // Adds the edge from `v` to `w`.
-fn join(words: &mut [u64], v: usize, w: usize)
-    requires { (length words.old ≡ 40) × ((v < 5) × (w < 5)) }
+fn join(words: &mut [u64; 40], v: usize, w: usize)
+    requires from { v < 5 }
+    requires to { w < 5 }
 {
     set(words, 4 * v, w);
 }
 
 // The nodes that can be reached from `start`, as bits.
-fn reached(words: &mut [u64], start: usize) -> u64
-    requires { (length words.old ≡ 40) × (start < 5) }
+#[tactic(auto, using(graphs::proofs::Marks::row_room), unfolding(graphs::specs::Tests::test_shape))]
+fn reached(words: &mut [u64; 40], start: usize) -> u64
+    requires { start < 5 }
 {
-    erase(words, 28);
-    let places = Places {
-        marks: 28,
-        stride: 1,
-        column: 0,
-        queue: 32,
-    };
-    reach(&RowsAt { at: 0, nodes: 5 }, &mut (), words, places, start);
-    words[28]
+    erase(words, MARKS.marks);
+    let mut graph = ROWS;
+    reach(&mut graph, words, Places::from(MARKS), start);
+    words[MARKS.marks]
 }
 
 // Whether the graph has a cycle.
-fn cyclic(words: &mut [u64]) -> bool
-    requires { length words.old ≡ 40 }
-{
-    let places = Places {
-        marks: 28,
-        stride: 1,
-        column: 0,
-        queue: 32,
-    };
-    has_cycle(&RowsAt { at: 0, nodes: 5 }, &mut (), words, places, 5)
+#[tactic(auto, unfolding(graphs::specs::Tests::test_shape))]
+fn cyclic(words: &mut [u64; 40]) -> bool {
+    let mut graph = ROWS;
+    has_cycle(&mut graph, words, Places::from(MARKS))
 }
 
 // The nodes that can be reached from `start` where no edge leads from `barred`, as bits.
-fn led(words: &mut [u64], start: usize, barred: usize) -> u64
-    requires { (length words.old ≡ 40) × ((start < 5) × (barred < 5)) }
+fn led(words: &mut [u64; 40], start: usize, barred: usize) -> u64
+    requires start_in { start < 5 }
+    requires barred_in { barred < 5 }
 {
-    erase(words, 20);
-    set(words, 20, barred);
-    erase(words, 24);
-    set(words, 24, start);
-    let graph = RowsUnless {
-        at: 0,
-        nodes: 5,
-        barred: 20,
+    erase(words, BARRED);
+    set(words, BARRED, barred);
+    erase(words, STARTS);
+    set(words, STARTS, start);
+    let graph = Unless {
+        of: ROWS,
+        barred: BARRED,
     };
-    uncovered(words, graph, 24, 28, 32);
-    words[28]
+    uncovered(words, graph, STARTS, MARKS);
+    words[MARKS.marks]
 }
 
 fn main(rt: HostRuntime) -> io::Result<()> {

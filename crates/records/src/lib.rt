@@ -1,15 +1,15 @@
 // The table over lists of records.
 #![tactic(auto)]
 
-ghost use Rattle.std.specs.Prelude.{◌≡◌, length};
-ghost use Rattle.std.specs.List.{slice_get};
-ghost use Rattle.tables.specs.Asked.{list_in, items_of, exports_of, partials_of, sites_of, present};
-ghost use Rattle.records.specs.Records.{module_of, table_of, record_place, meaning_of};
+ghost use Rattle.std.specs.Prelude.{◌≡◌};
+ghost use Rattle.tables.specs.Asked.{list_in, info_of, entry_info_of, present};
+ghost use Rattle.records.specs.Records.{module_of, entry_of, table_of, record_place, meaning_of};
 
 use tables::parts::{EntryInfo, Export, ModuleInfo, Site, Symbol};
 use tables::table::LinkTable;
 use tables::thing::{Field, ModuleList, Thing};
 
+// Flags and a wrap are numbers, as in what a table answers: those that are too large are refused with their place.
 #[derive(Clone, Copy)]
 pub struct ModuleRecord<'t> {
     pub flags: u32,
@@ -46,7 +46,7 @@ pub struct RecordTable<'t> {
 }
 
 // The list that a record stands in.
-#[derive(Clone, Copy)]
+#[derive(Clone, Copy, Debug, PartialEq, Eq)]
 pub enum RecordList {
     // the one record of the header
     Header,
@@ -61,99 +61,95 @@ pub enum RecordList {
 }
 
 // A place among records: the list, and the number of the record in it, from 0.
-#[derive(Clone, Copy)]
+#[derive(Clone, Copy, Debug, PartialEq, Eq)]
 pub struct RecordPlace {
     pub list: RecordList,
     pub number: usize,
 }
 
-// The element of `list` at `i`, or none past its end.
-fn at<X: Copy>(list: &[X], i: usize) -> Option<X>
-    ensures { result ≡ slice_get list.now i }
-{
-    if i < list.len() { Some(list[i]) } else { None }
-}
+impl<'t> ModuleRecord<'t> {
+    // A list of numbers of the module.
+    fn list_in(&self, list: ModuleList) -> &'t [u32]
+        ensures { result.now ≡ list_in list (module_of self.now) }
+    {
+        match list {
+            ModuleList::Loads => self.loads,
+            ModuleList::Dependencies => self.dependencies,
+            ModuleList::Resolved => self.resolved,
+            ModuleList::References => self.references,
+        }
+    }
 
-// A list of numbers of a module.
-fn list_in<'t>(row: ModuleRecord<'t>, list: ModuleList) -> &'t [u32]
-    ensures { result.now ≡ list_in list (module_of row.entry) }
-{
-    match list {
-        ModuleList::Loads => row.loads,
-        ModuleList::Dependencies => row.dependencies,
-        ModuleList::Resolved => row.resolved,
-        ModuleList::References => row.references,
+    // The module with the lengths of its lists. A method and no `From`: the items do not go with it.
+    fn info(&self) -> ModuleInfo
+        ensures { result ≡ info_of (module_of self.now) }
+    {
+        ModuleInfo {
+            flags: self.flags,
+            namespace: self.namespace,
+            wrapper: self.wrapper,
+            wrap: self.wrap,
+            loads: self.loads.len(),
+            dependencies: self.dependencies.len(),
+            resolved: self.resolved.len(),
+            references: self.references.len(),
+            exports: self.exports.len(),
+            partial: self.partial.len(),
+        }
     }
 }
 
-// The lists of a module or an entry by its number, empty where there is none.
-fn items<'t>(t: &RecordTable<'t>, list: ModuleList, m: usize) -> &'t [u32]
-    ensures { result.now ≡ items_of (table_of t.now) list m }
-{
-    let Some(row) = at(t.modules, m) else {
-        return &[];
-    };
-    list_in(row, list)
-}
-
-fn sites<'t>(t: &RecordTable<'t>, e: usize) -> &'t [Site]
-    ensures { result.now ≡ sites_of (table_of t.now) e }
-{
-    let Some(row) = at(t.entries, e) else {
-        return &[];
-    };
-    row.sites
-}
-
-fn export_count(t: &RecordTable, m: usize) -> usize
-    ensures { result ≡ length (exports_of (table_of t.now) m) }
-{
-    let Some(row) = at(t.modules, m) else {
-        return 0;
-    };
-    row.exports.len()
-}
-
-fn partial_count(t: &RecordTable, m: usize) -> usize
-    ensures { result ≡ length (partials_of (table_of t.now) m) }
-{
-    let Some(row) = at(t.modules, m) else {
-        return 0;
-    };
-    row.partial.len()
-}
-
-// The table has the thing.
-fn has(t: &RecordTable, thing: Thing) -> bool
-    ensures { result ≡ present (table_of t.now) thing }
-{
-    match thing {
-        Thing::Header => true,
-        Thing::Module(m) => m < t.modules.len(),
-        Thing::Item(list, m, i) => i < items(t, list, m).len(),
-        Thing::Export(m, i) => i < export_count(t, m),
-        Thing::Partial(m, i) => i < partial_count(t, m),
-        Thing::Entry(e) => e < t.entries.len(),
-        Thing::Site(e, i) => i < sites(t, e).len(),
-        Thing::Symbol(s) => s < t.symbols.len(),
+impl<'t> EntryRecord<'t> {
+    // The entry with the number of its sites.
+    fn info(&self) -> EntryInfo
+        ensures { result ≡ entry_info_of (entry_of self.now) }
+    {
+        EntryInfo {
+            root: self.root,
+            flags: self.flags,
+            sites: self.sites.len(),
+        }
     }
 }
 
 // The place of a thing that is there.
-fn place(thing: Thing) -> RecordPlace
-    ensures { result ≡ record_place thing }
-{
-    let (list, number) = match thing {
-        Thing::Header => (RecordList::Header, 0),
-        Thing::Module(m) => (RecordList::Modules, m),
-        Thing::Item(list, m, i) => (RecordList::Items(list, m), i),
-        Thing::Export(m, i) => (RecordList::Exports(m), i),
-        Thing::Partial(m, i) => (RecordList::Partial(m), i),
-        Thing::Entry(e) => (RecordList::Entries, e),
-        Thing::Site(e, i) => (RecordList::Sites(e), i),
-        Thing::Symbol(s) => (RecordList::Symbols, s),
-    };
-    RecordPlace { list, number }
+impl From<Thing> for RecordPlace {
+    ghost from_gives = { λ thing place. place ≡ record_place thing };
+
+    fn from(thing: Thing) -> RecordPlace {
+        let (list, number) = match thing {
+            Thing::Header => (RecordList::Header, 0),
+            Thing::Module(m) => (RecordList::Modules, m),
+            Thing::Item(list, m, i) => (RecordList::Items(list, m), i),
+            Thing::Export(m, i) => (RecordList::Exports(m), i),
+            Thing::Partial(m, i) => (RecordList::Partial(m), i),
+            Thing::Entry(e) => (RecordList::Entries, e),
+            Thing::Site(e, i) => (RecordList::Sites(e), i),
+            Thing::Symbol(s) => (RecordList::Symbols, s),
+        };
+        RecordPlace { list, number }
+    }
+}
+
+impl<'t> RecordTable<'t> {
+    // The table has the thing.
+    fn has(&self, thing: Thing) -> bool
+        ensures { result ≡ present (table_of self.now) thing }
+    {
+        match thing {
+            Thing::Header => true,
+            Thing::Module(m) => m < self.modules.len(),
+            Thing::Item(list, m, i) => self
+                .modules
+                .get(m)
+                .is_some_and(|row| i < row.list_in(list).len()),
+            Thing::Export(m, i) => self.modules.get(m).is_some_and(|row| i < row.exports.len()),
+            Thing::Partial(m, i) => self.modules.get(m).is_some_and(|row| i < row.partial.len()),
+            Thing::Entry(e) => e < self.entries.len(),
+            Thing::Site(e, i) => self.entries.get(e).is_some_and(|row| i < row.sites.len()),
+            Thing::Symbol(s) => s < self.symbols.len(),
+        }
+    }
 }
 
 impl<'t> LinkTable<'t> for RecordTable<'t> {
@@ -182,57 +178,34 @@ impl<'t> LinkTable<'t> for RecordTable<'t> {
     }
 
     fn module(&mut self, m: usize) -> Option<ModuleInfo> {
-        let row = at(self.modules, m)?;
-        Some(ModuleInfo {
-            flags: row.flags,
-            namespace: row.namespace,
-            wrapper: row.wrapper,
-            wrap: row.wrap,
-            loads: row.loads.len(),
-            dependencies: row.dependencies.len(),
-            resolved: row.resolved.len(),
-            references: row.references.len(),
-            exports: row.exports.len(),
-            partial: row.partial.len(),
-        })
+        self.modules.get(m).map(ModuleRecord::info)
     }
 
     fn item(&mut self, list: ModuleList, m: usize, i: usize) -> Option<u32> {
-        at(items(self, list, m), i)
+        self.modules.get(m)?.list_in(list).get(i).copied()
     }
 
     fn export(&mut self, m: usize, i: usize) -> Option<Export<'t>> {
-        let row = at(self.modules, m)?;
-        at(row.exports, i)
+        self.modules.get(m)?.exports.get(i).copied()
     }
 
     fn partial(&mut self, m: usize, i: usize) -> Option<&'t [u8]> {
-        let row = at(self.modules, m)?;
-        at(row.partial, i)
+        self.modules.get(m)?.partial.get(i).copied()
     }
 
     fn entry(&mut self, e: usize) -> Option<EntryInfo> {
-        let row = at(self.entries, e)?;
-        Some(EntryInfo {
-            root: row.root,
-            flags: row.flags,
-            sites: row.sites.len(),
-        })
+        self.entries.get(e).map(EntryRecord::info)
     }
 
     fn site(&mut self, e: usize, i: usize) -> Option<Site> {
-        at(sites(self, e), i)
+        self.entries.get(e)?.sites.get(i).copied()
     }
 
     fn symbol(&mut self, s: usize) -> Option<Symbol> {
-        at(self.symbols, s)
+        self.symbols.get(s).copied()
     }
 
     fn place_of(&mut self, thing: Thing, _field: Field) -> Option<RecordPlace> {
-        if has(self, thing) {
-            Some(place(thing))
-        } else {
-            None
-        }
+        self.has(thing).then(|| RecordPlace::from(thing))
     }
 }

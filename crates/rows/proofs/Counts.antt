@@ -23,8 +23,7 @@ count_add f m zero = ap (count f) (add-zero m) ∙ sym (add-zero (count f m))
 count_add f m (suc n) = ap (count f) (add-suc m n) ∙ ap (λ (x : ℕ). x + cond (f (m + n)) 1 0) (count_add f m n) ∙ omega arith
 
 cond_le : (b : Bool) → cond b 1 0 ≤ 1
-cond_le true = omega arith
-cond_le false = omega arith
+cond_le b = grind arith
 
 pub count_le : (f : ℕ → Bool) (n : ℕ) → count f n ≤ n
 unfolding count

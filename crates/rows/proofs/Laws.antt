@@ -10,8 +10,9 @@ use lib.Bits.{bit_and, bit_or}
 use lib.Seq.{take-set-le}
 use Rattle.std.proofs.lemmas.List.{length-set, get_or-set_same, get_or-set_other, get_or_past}
 use Rattle.std.proofs.lemmas.Bool.{cases_eq, eq-eqb, ne_eqb, or_right, and_right}
+use Rattle.std.proofs.lemmas.Bool.Decides.{nat_tests}
 use Rattle.std.proofs.lemmas.Nat.{pow_below}
-use Rattle.rows.specs.Bits.{bit, has, with_bit, without_bit, put_row, op_row, less, union_row, meet_row, minus_row, empty_row, Apart}
+use Rattle.rows.specs.Bits.{bit, has, with_bit, without_bit, put_row, op_row, less, union_row, meet_row, minus_row, copied_row, empty_row, Apart}
 use Rattle.rows.proofs.Digits.{bit-or, bit-and, bit_less, bit_pow, bit_not, zero_bit}
 
 -- ---- any words
@@ -37,11 +38,7 @@ has_past ws at i h = has_zero ws at i (get_or_past ws (at + i / 64) 0 h)
 -- ---- one word changed
 
 eqb_parts : (i j : ℕ) → j / 64 ≡ i / 64 → eqb i j ≡ eqb (i % 64) (j % 64)
-eqb_parts i j h =
-    ⊎_elim
-    (λ (same : i % 64 ≡ j % 64). eq-eqb i j (omega arith) ∙ sym (eq-eqb (i % 64) (j % 64) same))
-    (λ (other : i % 64 ≡ j % 64 → ⊥). ne_eqb i j (λ e. other (ap (λ (x : ℕ). x % 64) e)) ∙ sym (ne_eqb (i % 64) (j % 64) other))
-    (cases_eq (i % 64) (j % 64))
+eqb_parts i j h = grind (arith, nat_tests)
 
 changed : (ws : List ℕ) (at i v j : ℕ) (F : Bool → Bool → Bool) → at + i / 64 < length ws
     → ((b : Bool) → F b false ≡ b)
@@ -62,12 +59,10 @@ changed ws at i v j F h keeps here =
     (cases_eq (j / 64) (i / 64))
 
 or-false : (b : Bool) → (b || false) ≡ b
-or-false true = refl
-or-false false = refl
+or-false b = grind arith
 
 and_true : (b : Bool) → (b && not false) ≡ b
-and_true true = refl
-and_true false = refl
+and_true b = grind arith
 
 -- ---- a number put in
 
@@ -130,7 +125,7 @@ module _ (ws : List ℕ) (at i : ℕ) where
   has-without_bit j h =
       changed ws at i (bit_and (get_or ws (at + i / 64) 0) (2 ^ 64 - 1 - 2 ^ (i % 64))) j (λ b e. b && not e) h and_true
       (λ k l. bit-and (get_or ws (at + i / 64) 0) (2 ^ 64 - 1 - 2 ^ (i % 64)) k
-      ∙ ap (◌&&◌ (bit (get_or ws (at + i / 64) 0) k)) (bit_not 64 (2 ^ (i % 64)) k (pow_below (i % 64) 64 (omega arith)) l ∙ ap not (bit_pow (i % 64) k)))
+      ∙ ap (◌&&◌ (bit (get_or ws (at + i / 64) 0) k)) (bit_not (2 ^ (i % 64)) k (pow_below (i % 64) 64 (omega arith)) l ∙ ap not (bit_pow (i % 64) k)))
 
   pub has-without_bit_itself : at + i / 64 < length ws → has (without_bit ws at i) at i ≡ false
   has-without_bit_itself h = has-without_bit i h ∙ and_right (has ws at i) (not (eqb i i)) (ap not (eq-eqb i i refl))
@@ -153,12 +148,7 @@ module _ (ws : List ℕ) (at a b c d : ℕ) where
 
   pub word_put_row : (k : ℕ) → (k < at) ⊎ (at + 4 ≤ k) → get_or (put_row ws at a b c d) k 0 ≡ get_or ws k 0
   unfolding put_row
-  word_put_row k h =
-      let n0 : k ≢ at = omega arith in
-      let n1 : k ≢ at + 1 = omega arith in
-      let n2 : k ≢ at + 2 = omega arith in
-      let n3 : k ≢ at + 3 = omega arith in
-      simp get_or-set_other
+  word_put_row k h = grind (arith, get_or-set_other)
 
   pub front_put_row : (n : ℕ) → n ≤ at → take n (put_row ws at a b c d) ≡ take n ws
   unfolding put_row
@@ -185,45 +175,21 @@ module _ (ws : List ℕ) (at a b c d : ℕ) where
   module _ (fits : at + 4 ≤ length ws) where
     put_0 : get_or (put_row ws at a b c d) at 0 ≡ a
     unfolding put_row
-    put_0 =
-        let n1 : at ≢ at + 1 = omega arith in
-        let n2 : at ≢ at + 2 = omega arith in
-        let n3 : at ≢ at + 3 = omega arith in
-        let h : at < length ws = omega arith in
-        simp (get_or-set_other, get_or-set_same)
+    put_0 = grind (arith, get_or-set_other, get_or-set_same, length-set {A = ℕ})
 
     put_1 : get_or (put_row ws at a b c d) (at + 1) 0 ≡ b
     unfolding put_row
-    put_1 =
-        let n2 : at + 1 ≢ at + 2 = omega arith in
-        let n3 : at + 1 ≢ at + 3 = omega arith in
-        let h : at + 1 < length (set ws at a) = simp length-set (omega arith) in
-        simp (get_or-set_other, get_or-set_same)
+    put_1 = grind (arith, get_or-set_other, get_or-set_same, length-set {A = ℕ})
 
     put_2 : get_or (put_row ws at a b c d) (at + 2) 0 ≡ c
     unfolding put_row
-    put_2 =
-        let n3 : at + 2 ≢ at + 3 = omega arith in
-        let h : at + 2 < length (set (set ws at a) (at + 1) b) = simp length-set (omega arith) in
-        simp (get_or-set_other, get_or-set_same)
+    put_2 = grind (arith, get_or-set_other, get_or-set_same, length-set {A = ℕ})
 
     put_3 : get_or (put_row ws at a b c d) (at + 3) 0 ≡ d
     unfolding put_row
-    put_3 =
-        let h : at + 3 < length (set (set (set ws at a) (at + 1) b) (at + 2) c) = simp length-set (omega arith) in
-        simp get_or-set_same
+    put_3 = grind (arith, get_or-set_other, get_or-set_same, length-set {A = ℕ})
 
-empty_word : (ws : List ℕ) (at k : ℕ) → at + 4 ≤ length ws → k < 4 → get_or (empty_row ws at) (at + k) 0 ≡ 0
-empty_word ws at zero fits h = simp add-zero (put_0 ws at 0 0 0 0 fits)
-empty_word ws at (suc zero) fits h = put_1 ws at 0 0 0 0 fits
-empty_word ws at (suc (suc zero)) fits h = put_2 ws at 0 0 0 0 fits
-empty_word ws at (suc (suc (suc zero))) fits h = put_3 ws at 0 0 0 0 fits
-empty_word ws at (suc (suc (suc (suc k)))) fits h = absurd (omega arith)
-
-pub has-empty_row : (ws : List ℕ) (at i : ℕ) → at + 4 ≤ length ws → i < 256 → has (empty_row ws at) at i ≡ false
-has-empty_row ws at i fits h = has_zero (empty_row ws at) at i (empty_word ws at (i / 64) fits (omega arith))
-
--- ---- a row joined with another: `union_row`, `meet_row` and `minus_row` by their op
+-- ---- a row joined with another: `union_row`, `meet_row`, `minus_row` and `copied_row` by their op
 
 module _ (op : ℕ → ℕ → ℕ) (ws : List ℕ) (to from : ℕ) where
   pub length_op_row : length (op_row op ws to from) ≡ length ws
@@ -250,7 +216,7 @@ module _ (op : ℕ → ℕ → ℕ) (ws : List ℕ) (to from : ℕ) where
   unfolding op_row
   has_op_row_apart at i apart h = has-put_row_apart ws to _ _ _ _ at i apart h
 
-joined_word : (op : ℕ → ℕ → ℕ) (ws : List ℕ) (to from k : ℕ) → to + 4 ≤ length ws → k < 4
+pub joined_word : (op : ℕ → ℕ → ℕ) (ws : List ℕ) (to from k : ℕ) → to + 4 ≤ length ws → k < 4
     → get_or (op_row op ws to from) (to + k) 0 ≡ op (get_or ws (to + k) 0) (get_or ws (from + k) 0)
 unfolding op_row
 joined_word op ws to from zero fits h = simp add-zero (put_0 ws to _ _ _ _ fits)
@@ -266,6 +232,11 @@ has_op_row op F law ws to from i fits h =
     ap (λ (x : ℕ). bit x (i % 64)) (joined_word op ws to from (i / 64) fits (omega arith))
     ∙ law (get_or ws (to + i / 64) 0) (get_or ws (from + i / 64) 0) (i % 64)
 
+-- `empty_row` has the op that answers 0
+pub has-empty_row : (ws : List ℕ) (at i : ℕ) → at + 4 ≤ length ws → i < 256 → has (empty_row ws at) at i ≡ false
+unfolding op_row
+has-empty_row ws at = has_op_row (λ _ _. 0) (λ _ _. false) (λ _ _ k. zero_bit k) ws at at
+
 pub has-union_row : (ws : List ℕ) (to from i : ℕ) → to + 4 ≤ length ws → i < 256 → has (union_row ws to from) to i ≡ (has ws to i || has ws from i)
 has-union_row = has_op_row bit_or ◌||◌ bit-or
 
@@ -274,3 +245,6 @@ has-meet_row = has_op_row bit_and ◌&&◌ bit-and
 
 pub has-minus_row : (ws : List ℕ) (to from i : ℕ) → to + 4 ≤ length ws → i < 256 → has (minus_row ws to from) to i ≡ (has ws to i && not (has ws from i))
 has-minus_row = has_op_row less (λ a b. a && not b) bit_less
+
+pub has-copied_row : (ws : List ℕ) (to from i : ℕ) → to + 4 ≤ length ws → i < 256 → has (copied_row ws to from) to i ≡ has ws from i
+has-copied_row = has_op_row (λ a b. b) (λ a b. b) (λ a b k. refl)

@@ -1,4 +1,5 @@
 pub mod Counts
 pub mod Digits
+pub mod Gives
 pub mod Laws
 pub mod Words

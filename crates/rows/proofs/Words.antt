@@ -1,13 +1,22 @@
--- Rows by their words: what the functions that read a row find.
-use Rattle.std.proofs.Common.{◌≡◌, ℕ, zero, suc, ◌+◌, ◌-◌, ◌*◌, ◌/◌, ◌%◌, ◌^◌, ◌<◌, ◌≤◌, Bool, true, false, ◌&&◌, eqb, List, [], get_or, Some, Decides, sym, ap, ◌∙◌, ap₂, ⊎_elim, add-zero, arith, lit<}
-use lib.Bits.{bit_and}
-use lib.Count.{ones, count_trailing_zeros}
+-- Rows by their words: what the functions that read a row find, and those that write one leave.
+use Rattle.std.proofs.Common.{◌≡◌, ℕ, zero, suc, ◌+◌, ◌-◌, ◌*◌, ◌/◌, ◌%◌, ◌^◌, ◌<◌, ◌≤◌, Bool, true, false, eqb, ◌⊎◌, ◌↔◌, List, length, get_or, take, Some, sym, refl, ap, ◌∙◌, ap₂, inl, inr, ⊎_elim, add-one, arith, w64, Fits, IsTrue}
+use lib.Count.{ones}
+use Rattle.std.specs.List.{between, list_all, sum_by, All}
+use Rattle.std.specs.Int.{trailing_zeros}
+use Rattle.std.specs.Str.{bytes_eq}
 use Rattle.std.proofs.lemmas.Bool.{cases_lt, both_ways}
+use Rattle.std.proofs.lemmas.Bool.Decides.{Decides-by_and, Decides-eqb}
+use Rattle.std.proofs.lemmas.Grind.{same_number_lists}
+use Rattle.std.proofs.lemmas.List.{take_all}
+use Rattle.std.proofs.lemmas.List.Edits.{length-between, get_or-between}
+use Rattle.std.proofs.lemmas.List.Elements.{All-get_or, All-from_get_or}
+use Rattle.std.proofs.lemmas.List.Sums.{sum_by_more}
 use Rattle.std.proofs.lemmas.Nat.{shr_le}
-use Rattle.std.proofs.lemmas.Bool.Decides.{Decides-like, Decides-and, Decides-eqb}
-use Rattle.rows.specs.Bits.{bit, has, put_row, op_row, minus_row, count, Lowest, Next}
-use Rattle.rows.proofs.Counts.{count_none, count_same, count_add}
-use Rattle.rows.proofs.Digits.{and_not, zero_bit, bit_high, same_bits, bit_shr, lowest, ones_count}
+use Rattle.std.proofs.lemmas.Slice.Eq.{bytes_eq-Decides}
+use Rattle.rows.specs.Bits.{bit, has, op_row, Combined, count, Lowest, Next}
+use Rattle.rows.proofs.Counts.{count_same, count_add, count_le}
+use Rattle.rows.proofs.Digits.{zero_bit, bit_high, same_bits, bit_shr, lowest, ones_count}
+use Rattle.rows.proofs.Laws.{length_op_row, word_op_row, joined_word}
 
 pub has_at : (ws : List ℕ) (at q k : ℕ) → k < 64 → has ws at (64 * q + k) ≡ bit (get_or ws (at + q) 0) k
 unfolding has
@@ -16,133 +25,147 @@ has_at ws at q k h =
     let low : (64 * q + k) % 64 ≡ k = omega arith in
     ap₂ (λ (x y : ℕ). bit (get_or ws (at + x) 0) y) high low
 
--- the four words at `at`, each fitting its type
-pub Fit : List ℕ → ℕ → Type 0
-Fit ws at = (k : ℕ) → k < 4 → get_or ws (at + k) 0 < 2 ^ 64
+-- each word fits its type
+abbrev pub Typed : List ℕ → Type 0
+Typed ws = (i : ℕ) → Fits w64 (get_or ws i 0)
 
-pub fit : (ws : List ℕ) (at : ℕ) → get_or ws at 0 < 2 ^ 64 → get_or ws (at + 1) 0 < 2 ^ 64 → get_or ws (at + 2) 0 < 2 ^ 64 → get_or ws (at + 3) 0 < 2 ^ 64 → Fit ws at
-unfolding Fit
-fit ws at a b c d zero l = simp add-zero a
-fit ws at a b c d (suc zero) l = b
-fit ws at a b c d (suc (suc zero)) l = c
-fit ws at a b c d (suc (suc (suc zero))) l = d
-fit ws at a b c d (suc (suc (suc (suc k)))) l = absurd (omega arith)
+-- ---- a row that was written
 
--- `!` of a row's words
-pub minus_words : (ws : List ℕ) (to from : ℕ) → Fit ws to → Fit ws from
-    → put_row ws to (bit_and (get_or ws to 0) (2 ^ 64 - 1 - get_or ws from 0)) (bit_and (get_or ws (to + 1) 0) (2 ^ 64 - 1 - get_or ws (from + 1) 0))
-    (bit_and (get_or ws (to + 2) 0) (2 ^ 64 - 1 - get_or ws (from + 2) 0)) (bit_and (get_or ws (to + 3) 0) (2 ^ 64 - 1 - get_or ws (from + 3) 0))
-    ≡ minus_row ws to from
-unfolding Fit op_row
-minus_words ws to from ft ff =
-    let e0 = and_not (get_or ws to 0) (get_or ws from 0) (simp add-zero at (ft 0 (lit< tt))) (simp add-zero at (ff 0 (lit< tt))) in
-    let e1 = and_not (get_or ws (to + 1) 0) (get_or ws (from + 1) 0) (ft 1 (lit< tt)) (ff 1 (lit< tt)) in
-    let e2 = and_not (get_or ws (to + 2) 0) (get_or ws (from + 2) 0) (ft 2 (lit< tt)) (ff 2 (lit< tt)) in
-    let e3 = and_not (get_or ws (to + 3) 0) (get_or ws (from + 3) 0) (ft 3 (lit< tt)) (ff 3 (lit< tt)) in
-    rw (e0, e1, e2, e3)
+-- the words are those that the combined row has
+pub combined_is : {Of : ℕ → ℕ → ℕ → Type 0} {to from : ℕ} {ws vs : List ℕ} (op : ℕ → ℕ → ℕ) → to + 4 ≤ length ws → Combined Of to from ws vs
+    → ((k r : ℕ) → Of (get_or ws (to + k) 0) (get_or ws (from + k) 0) r → r ≡ op (get_or ws (to + k) 0) (get_or ws (from + k) 0))
+    → vs ≡ op_row op ws to from
+combined_is {to = to} {from = from} {ws = ws} {vs = vs} op fits s says = same_number_lists vs (op_row op ws to from) (s.long ∙ sym (length_op_row op ws to from)) at
+  where
+    outside : (k : ℕ) → (k < to) ⊎ (to + 4 ≤ k) → get_or vs k 0 ≡ get_or (op_row op ws to from) k 0
+    outside k o = s.others k o ∙ sym (word_op_row op ws to from k o)
 
--- two rows are the same in each of their four words, and then in each bit
-module _ (ws vs : List ℕ) (a b : ℕ) where
-  word_of : (((get_or ws a 0 ≡ get_or vs b 0) × (get_or ws (a + 1) 0 ≡ get_or vs (b + 1) 0)) × (get_or ws (a + 2) 0 ≡ get_or vs (b + 2) 0)) × (get_or ws (a + 3) 0 ≡ get_or vs (b + 3) 0)
-      → (k : ℕ) → k < 4 → get_or ws (a + k) 0 ≡ get_or vs (b + k) 0
-  word_of h zero l = simp add-zero h.0.0.0
-  word_of h (suc zero) l = h.0.0.1
-  word_of h (suc (suc zero)) l = h.0.1
-  word_of h (suc (suc (suc zero))) l = h.1
-  word_of h (suc (suc (suc (suc k)))) l = absurd (omega arith)
+    inside : (k : ℕ) → k < 4 → get_or vs (to + k) 0 ≡ get_or (op_row op ws to from) (to + k) 0
+    inside k l = says k _ (s.made k l) ∙ sym (joined_word op ws to from k fits l)
 
-  word_is : Fit ws a → Fit vs b → ((i : ℕ) → i < 256 → has ws a i ≡ has vs b i) → (k : ℕ) → k < 4 → get_or ws (a + k) 0 ≡ get_or vs (b + k) 0
-  unfolding Fit
-  word_is fa fb h q l =
-      same_bits 64 (get_or ws (a + q) 0) (get_or vs (b + q) 0) (fa q l) (fb q l)
-      (λ k m. sym (has_at ws a q k m) ∙ h (64 * q + k) (omega arith) ∙ has_at vs b q k m)
+    here : (k j : ℕ) → to + j ≡ k → j < 4 → get_or vs k 0 ≡ get_or (op_row op ws to from) k 0
+    here k j e l = ap (λ (x : ℕ). get_or vs x 0) (sym e) ∙ inside j l ∙ ap (λ (x : ℕ). get_or (op_row op ws to from) x 0) e
 
-  pub decides_same : Fit ws a → Fit vs b
-      → Decides (((eqb (get_or ws a 0) (get_or vs b 0) && eqb (get_or ws (a + 1) 0) (get_or vs (b + 1) 0)) && eqb (get_or ws (a + 2) 0) (get_or vs (b + 2) 0)) && eqb (get_or ws (a + 3) 0) (get_or vs (b + 3) 0))
-      ((i : ℕ) → i < 256 → has ws a i ≡ has vs b i)
+    at : (k : ℕ) → k < length vs → get_or vs k 0 ≡ get_or (op_row op ws to from) k 0
+    at k l =
+        ⊎_elim (λ (x : k < to). outside k (inl x))
+        (λ (x : to ≤ k). ⊎_elim (λ (y : k < to + 4). here k (k - to) (omega arith) (omega arith)) (λ (y : to + 4 ≤ k). outside k (inr y)) (cases_lt k (to + 4)))
+        (cases_lt k to)
+
+-- ---- a row as the list of its words
+
+abbrev zero_word : ℕ → Type 0
+zero_word w = w ≡ 0
+
+module _ (ws : List ℕ) (at : ℕ) (fits : at + 4 ≤ length ws) where
+  abbrev row : List ℕ
+  row = between at (at + 4) ws
+
+  row_word : (k : ℕ) → k < 4 → get_or row k 0 ≡ get_or ws (at + k) 0
+  row_word k l = get_or-between ws at (at + 4) k 0 (omega arith)
+
+  row_length : length row ≡ 4
+  row_length = let n = length-between ws at (at + 4) fits in omega arith
+
+  pub row_has : (i : ℕ) → i < 256 → has ws at i ≡ bit (get_or row (i / 64) 0) (i % 64)
   unfolding has
-  decides_same fa fb =
-      Decides-like _
-      (λ h i l. ap (λ (x : ℕ). bit x (i % 64)) (word_of h (i / 64) (omega arith)))
-      (λ h. let w = word_is fa fb h in (((simp add-zero at (w 0 (lit< tt)), w 1 (lit< tt)), w 2 (lit< tt)), w 3 (lit< tt)))
-      (Decides-and _ _ (Decides-and _ _ (Decides-and _ _ (Decides-eqb _ _) (Decides-eqb _ _)) (Decides-eqb _ _)) (Decides-eqb _ _))
+  row_has i l = ap (λ (x : ℕ). bit x (i % 64)) (sym (row_word (i / 64) (omega arith)))
 
-pub decides_empty : (ws : List ℕ) (at : ℕ) → Fit ws at
-    → Decides (((eqb (get_or ws at 0) 0 && eqb (get_or ws (at + 1) 0) 0) && eqb (get_or ws (at + 2) 0) 0) && eqb (get_or ws (at + 3) 0) 0)
-    ((i : ℕ) → i < 256 → has ws at i ≡ false)
-unfolding has Fit
-decides_empty ws at f =
-    Decides-like _
-    (λ h i l. h i l ∙ zero_bit (i % 64))
-    (λ h i l. h i l ∙ sym (zero_bit (i % 64)))
-    (decides_same ws [] at 0 f (λ k l. lit< tt))
+  module _ (typed : Typed ws) where
+    word_small : (k : ℕ) → k < 4 → get_or row k 0 < 2 ^ 64
+    word_small k l = let is = row_word k l in let small = (typed (at + k)).fits in omega arith
 
--- ---- how many numbers a row has
+    -- ---- how many numbers it has
 
-count_block : (ws : List ℕ) (at q : ℕ) → Fit ws at → q < 4 → count (λ k. has ws at (64 * q + k)) 64 ≡ ones (get_or ws (at + q) 0)
-unfolding Fit
-count_block ws at q f l =
-    count_same (λ k. has ws at (64 * q + k)) (bit (get_or ws (at + q) 0)) 64 (λ k m. has_at ws at q k m)
-    ∙ sym (ones_count 64 (get_or ws (at + q) 0) (f q l))
+    count_word : (q : ℕ) → q < 4 → count (λ k. has ws at (64 * q + k)) 64 ≡ ones (get_or row q 0)
+    count_word q l =
+        count_same (λ k. has ws at (64 * q + k)) (bit (get_or row q 0)) 64 (λ k m. has_at ws at q k m ∙ ap (λ (x : ℕ). bit x k) (sym (row_word q l)))
+        ∙ sym (ones_count 64 (get_or row q 0) (word_small q l))
 
--- the count, one block of 64 after the other
-count_blocks : (f : ℕ → Bool) (n : ℕ) → count f (64 * (n + 1)) ≡ count f (64 * n) + count (λ k. f (64 * n + k)) 64
-count_blocks f n = ap (count f) (omega arith) ∙ count_add f (64 * n) 64
+    count_words : (q : ℕ) → q ≤ 4 → sum_by ones (take q row) ≡ count (has ws at) (64 * q)
+    unfolding count
+    count_words zero h = refl
+    count_words (suc q) h =
+        let long = row_length in
+        let more = sum_by_more ones row q 0 (omega arith) in
+        let before = count_words q (omega arith) in
+        let word = count_word q (omega arith) in
+        let add = count_add (has ws at) (64 * q) 64 in
+        let next : 64 * q + 64 ≡ 64 * suc q = omega arith in
+        ap (λ (k : ℕ). sum_by ones (take k row)) (sym (add-one q)) ∙ more ∙ ap₂ ◌+◌ before (sym word) ∙ sym add ∙ ap (count (has ws at)) next
 
-pub count_row : (ws : List ℕ) (at : ℕ) → Fit ws at
-    → count (has ws at) 256 ≡ ((ones (get_or ws at 0) + ones (get_or ws (at + 1) 0)) + ones (get_or ws (at + 2) 0)) + ones (get_or ws (at + 3) 0)
-count_row ws at f =
-    let f0 = has ws at in
-    let z : ones (get_or ws (at + 0) 0) ≡ ones (get_or ws at 0) = ap (λ (x : ℕ). ones (get_or ws x 0)) (add-zero at) in
-    omega (
-      arith,
-      count_none f0,
-      count_blocks f0 0,
-      count_block ws at 0 f (lit< tt),
-      count_blocks f0 1,
-      count_block ws at 1 f (lit< tt),
-      count_blocks f0 2,
-      count_block ws at 2 f (lit< tt),
-      count_blocks f0 3,
-      count_block ws at 3 f (lit< tt),
+    pub count_row : sum_by ones row ≡ count (has ws at) 256
+    count_row = ap (sum_by ones) (sym (take_all 4 row (let long = row_length in omega arith))) ∙ count_words 4 (omega arith)
+
+    pub few : sum_by ones row ≤ 256
+    few = let is = count_row in omega (arith, count_le (has ws at) 256)
+
+    -- ---- whether it has none
+
+    pub empty_is : (r : Bool) → r ≡ list_all (λ w. eqb w 0) row → IsTrue r ↔ ((i : ℕ) → i < 256 → has ws at i ≡ false)
+    empty_is r is = (
+      λ t i l. let long = row_length in row_has i l ∙ ap (λ (x : ℕ). bit x (i % 64)) (All-get_or zero_word row (i / 64) 0 (omega arith) (decides.0 (sym is ∙ t))) ∙ zero_bit (i % 64),
+      λ h. let long = row_length in is ∙ decides.1 (All-from_get_or zero_word row 0 (λ q l. same_bits (get_or row q 0) 0 (word_small q (omega arith)) (omega arith) (λ k m. none h q k (omega arith) m))),
     )
+      where
+        decides : (list_all (λ w. eqb w 0) row ≡ true → All zero_word row) × (All zero_word row → list_all (λ w. eqb w 0) row ≡ true)
+        decides = Decides-by_and (λ w. eqb w 0) zero_word (list_all (λ w. eqb w 0)) (λ w. Decides-eqb w 0) refl (λ _ _. refl) row
 
--- ---- the next number of a row: `rest` is the row's word from i on
+        none : ((i : ℕ) → i < 256 → has ws at i ≡ false) → (q k : ℕ) → q < 4 → k < 64 → bit (get_or row q 0) k ≡ bit 0 k
+        none h q k l m = ap (λ (x : ℕ). bit x k) (row_word q l) ∙ sym (has_at ws at q k m) ∙ h (64 * q + k) (omega arith) ∙ sym (zero_bit k)
 
-module _ (ws : List ℕ) (at i : ℕ) where
+-- ---- whether two rows are the same
+
+pub same_is : (ws : List ℕ) (a b : ℕ) (fa : a + 4 ≤ length ws) (fb : b + 4 ≤ length ws) → Typed ws → (r : Bool)
+    → r ≡ bytes_eq (between a (a + 4) ws) (between b (b + 4) ws) → IsTrue r ↔ ((i : ℕ) → i < 256 → has ws a i ≡ has ws b i)
+same_is ws a b fa fb typed r is = (
+  λ t i l. row_has ws a fa i l ∙ ap (λ (xs : List ℕ). bit (get_or xs (i / 64) 0) (i % 64)) (decides.0 (sym is ∙ t)) ∙ sym (row_has ws b fb i l),
+  λ h. is ∙ decides.1 (same_number_lists _ _ (row_length ws a fa ∙ sym (row_length ws b fb)) (λ q l. let long = row_length ws a fa in word h q (omega arith))),
+)
+  where
+    decides : (bytes_eq (row ws a fa) (row ws b fb) ≡ true → row ws a fa ≡ row ws b fb) × (row ws a fa ≡ row ws b fb → bytes_eq (row ws a fa) (row ws b fb) ≡ true)
+    decides = bytes_eq-Decides (row ws a fa) (row ws b fb)
+
+    word : ((i : ℕ) → i < 256 → has ws a i ≡ has ws b i) → (q : ℕ) → q < 4 → get_or (row ws a fa) q 0 ≡ get_or (row ws b fb) q 0
+    word h q l = same_bits _ _ (word_small ws a fa typed q l) (word_small ws b fb typed q l) (λ k m.
+        ap (λ (x : ℕ). bit x k) (row_word ws a fa q l) ∙ sym (has_at ws a q k m) ∙ h (64 * q + k) (omega arith) ∙ has_at ws b q k m ∙ ap (λ (x : ℕ). bit x k) (sym (row_word ws b fb q l)))
+
+-- ---- the next number of a row: `rest` is the row's word k from the bit of i on, where i is a number of that word
+
+module _ (ws : List ℕ) (at k i : ℕ) (here : i / 64 ≡ k) where
   abbrev rest : ℕ
-  rest = get_or ws (at + i / 64) 0 / 2 ^ (i % 64)
+  rest = get_or ws (at + k) 0 / 2 ^ (i % 64)
 
-  has_from : (k : ℕ) → i ≤ k → i % 64 + (k - i) < 64 → has ws at k ≡ bit rest (k - i)
+  has_from : (j : ℕ) → i ≤ j → i % 64 + (j - i) < 64 → has ws at j ≡ bit rest (j - i)
   unfolding has
-  has_from k l h =
-      let high : k / 64 ≡ i / 64 = omega arith in
-      let low : k % 64 ≡ i % 64 + (k - i) = omega arith in
-      ap₂ (λ (x y : ℕ). bit (get_or ws (at + x) 0) y) high low ∙ sym (bit_shr (get_or ws (at + i / 64) 0) (i % 64) (k - i))
+  has_from j l h =
+      let high : j / 64 ≡ k = omega arith in
+      let low : j % 64 ≡ i % 64 + (j - i) = omega arith in
+      ap₂ (λ (x y : ℕ). bit (get_or ws (at + x) 0) y) high low ∙ sym (bit_shr (get_or ws (at + k) 0) (i % 64) (j - i))
 
-  pub skips : (from : ℕ) → ((k : ℕ) → from ≤ k → k < i → has ws at k ≡ false) → rest ≡ 0
-      → (k : ℕ) → from ≤ k → k < i / 64 * 64 + 64 → has ws at k ≡ false
-  skips from before zero_rest k l h =
-      ⊎_elim (before k l)
-      (λ (m : i ≤ k). has_from k m (omega arith) ∙ ap (λ (x : ℕ). bit x (k - i)) zero_rest ∙ zero_bit (k - i))
-      (cases_lt k i)
+  pub skips : (from : ℕ) → ((j : ℕ) → from ≤ j → j < i → has ws at j ≡ false) → rest ≡ 0
+      → (j : ℕ) → from ≤ j → j < 64 * (k + 1) → has ws at j ≡ false
+  skips from before zero_rest j l h =
+      ⊎_elim (before j l)
+      (λ (m : i ≤ j). has_from j m (omega arith) ∙ ap (λ (x : ℕ). bit x (j - i)) zero_rest ∙ zero_bit (j - i))
+      (cases_lt j i)
 
   -- the lowest bit of the word lies in it
-  within : (t : ℕ) → get_or ws (at + i / 64) 0 < 2 ^ 64 → bit rest t ≡ true → i % 64 + t < 64
+  within : (t : ℕ) → get_or ws (at + k) 0 < 2 ^ 64 → bit rest t ≡ true → i % 64 + t < 64
   within t fits b =
       ⊎_elim (λ (l : i % 64 + t < 64). l)
-      (λ (l : 64 ≤ i % 64 + t). absurd (both_ways (bit rest t) (bit_shr (get_or ws (at + i / 64) 0) (i % 64) t ∙ bit_high 64 _ _ fits l) b))
+      (λ (l : 64 ≤ i % 64 + t). absurd (both_ways (bit rest t) (bit_shr (get_or ws (at + k) 0) (i % 64) t ∙ bit_high _ _ fits l) b))
       (cases_lt (i % 64 + t) 64)
 
-  pub finds : (from : ℕ) → i < 256 → get_or ws (at + i / 64) 0 < 2 ^ 64 → from ≤ i → ((k : ℕ) → from ≤ k → k < i → has ws at k ≡ false) → 0 < rest
-      → Next (has ws at) from 256 (Some (i + count_trailing_zeros 64 rest))
+  pub finds : (from : ℕ) → k < 4 → get_or ws (at + k) 0 < 2 ^ 64 → from ≤ i → ((j : ℕ) → from ≤ j → j < i → has ws at j ≡ false) → 0 < rest
+      → Next (has ws at) from 256 (Some (i + trailing_zeros w64 rest))
   finds from small fits le before some =
-      let t = count_trailing_zeros 64 rest in
-      let low : Lowest rest t = lowest 64 rest (omega (arith, shr_le (get_or ws (at + i / 64) 0) (i % 64))) some in
+      let t = trailing_zeros w64 rest in
+      let low : Lowest rest t = lowest rest some (omega (arith, shr_le (get_or ws (at + k) 0) (i % 64))) in
       let inside : i % 64 + t < 64 = within t fits low.0 in
       let same : (i + t) - i ≡ t = omega arith in (
         omega arith,
         omega arith,
         has_from (i + t) (omega arith) (omega arith) ∙ ap (bit rest) same ∙ low.0,
-        λ k l h. ⊎_elim (before k l) (λ (m : i ≤ k). has_from k m (omega arith) ∙ low.1 (k - i) (omega arith)) (cases_lt k i),
+        λ j l h. ⊎_elim (before j l) (λ (m : i ≤ j). has_from j m (omega arith) ∙ low.1 (j - i) (omega arith)) (cases_lt j i),
       )

@@ -1,5 +1,5 @@
 -- Sets of numbers as bits of 64-bit words, in a list of words. A set begins at a word; a row is a set of four words.
-use Rattle.std.specs.Prelude.{◌≡◌, ℕ, zero, suc, ◌+◌, ◌-◌, ◌/◌, ◌%◌, ◌^◌, ◌<◌, ◌≤◌, Bool, true, false, cond, ◌⊎◌, List, Option, MatchOption, ◌==◌, bit_and, bit_or, bit_xor, slice_index, slice_set}
+use Rattle.std.specs.Prelude.{◌≡◌, ℕ, zero, suc, ◌+◌, ◌-◌, ◌/◌, ◌%◌, ◌^◌, ◌<◌, ◌≤◌, Bool, true, false, if◌then◌else◌, ◌⊎◌, List, length, Option, MatchOption, ◌==◌, bit_and, bit_or, bit_xor, slice_index, slice_set}
 
 -- bit k of the number w
 unfoldable pub bit : ℕ → ℕ → Bool
@@ -39,8 +39,18 @@ less a b = bit_xor a (bit_and a b)
 abbrev pub minus_row : List ℕ → ℕ → ℕ → List ℕ
 minus_row ws to from = op_row less ws to from
 
+abbrev pub copied_row : List ℕ → ℕ → ℕ → List ℕ
+copied_row ws to from = op_row (λ (a b : ℕ). b) ws to from
+
 abbrev pub empty_row : List ℕ → ℕ → List ℕ
 empty_row ws at = put_row ws at 0 0 0 0
+
+-- the words ws became vs: each word of the row at `to` is one that `Of` makes of it and of the word of the row at `from`,
+-- and the other words are as they were
+pub record Combined (Of : ℕ → ℕ → ℕ → Type 0) (to from : ℕ) (ws vs : List ℕ) : Type 0 where
+  pub long : length vs ≡ length ws
+  pub made : (k : ℕ) → k < 4 → Of (slice_index ws (to + k)) (slice_index ws (from + k)) (slice_index vs (to + k))
+  pub others : (k : ℕ) → (k < to) ⊎ (to + 4 ≤ k) → slice_index vs k ≡ slice_index ws k
 
 -- two rows have no word in common
 abbrev pub Apart : ℕ → ℕ → Type 0
@@ -49,7 +59,7 @@ Apart a b = (a + 4 ≤ b) ⊎ (b + 4 ≤ a)
 -- how many numbers below n pass the test f
 unfoldable pub count : (ℕ → Bool) → ℕ → ℕ
 count f zero = 0
-count f (suc n) = count f n + cond (f n) 1 0
+count f (suc n) = count f n + (if f n then 1 else 0)
 
 -- t is the lowest bit of w that is set
 abbrev pub Lowest : ℕ → ℕ → Type 0

@@ -5,97 +5,33 @@
 use records::{EntryRecord, Header, ModuleRecord, RecordTable};
 use std::alloc::{AllocError, Global};
 use tables::fault::Cause;
-use tables::parts::{EntryInfo, Export, ModuleInfo, Site, Symbol};
+use tables::parts::{Export, Site, Symbol};
 use tables::table::LinkTable;
 use tables::thing::ModuleList;
 use texttable::TextTable;
 
-// The line and column of a text's first fault.
-fn fault_of(heap: Global, text: &[u8]) -> Result<(usize, usize), AllocError> {
+// The cause of a text's first fault, if it has one.
+fn fault_of(heap: Global, text: &[u8]) -> Result<Option<Cause>, AllocError> {
     let table = TextTable::open(heap, text)?;
-    match table.check() {
-        Ok(()) => Ok((0, 0)),
-        Err(fault) => match fault.cause {
-            Cause::BrokenForm { line, column } => Ok((line, column)),
-            _ => Ok((0, 1)),
-        },
-    }
+    Ok(table.check().err().map(|fault| fault.cause))
 }
 
 // A table of one module whose partial use is a name of `n` bytes.
 fn named(heap: Global, n: usize) -> Result<Vec<u8>, AllocError> {
     let mut text = Vec::new(heap);
     text.extend_from_slice(b"T     1     0     0           0\nM   131                 0\nP ")?;
-    for _ in 0..n {
-        text.push(b'a')?;
-    }
-    text.push(10)?;
+    text.extend_from_slice(vec![in heap; b'a'; n]?.as_slice())?;
+    text.push(b'\n')?;
     Ok(text)
-}
-
-fn same_module(a: Option<ModuleInfo>, b: Option<ModuleInfo>) -> bool {
-    let (Some(x), Some(y)) = (a, b) else {
-        return a.is_none() && b.is_none();
-    };
-    let fields = (x.flags == y.flags)
-        & (x.namespace == y.namespace)
-        & (x.wrapper == y.wrapper)
-        & (x.wrap == y.wrap);
-    let lists = (x.loads == y.loads)
-        & (x.dependencies == y.dependencies)
-        & (x.resolved == y.resolved)
-        & (x.references == y.references)
-        & (x.exports == y.exports)
-        & (x.partial == y.partial);
-    fields & lists
-}
-
-fn same_entry(a: Option<EntryInfo>, b: Option<EntryInfo>) -> bool {
-    let (Some(x), Some(y)) = (a, b) else {
-        return a.is_none() && b.is_none();
-    };
-    (x.root == y.root) & (x.flags == y.flags) & (x.sites == y.sites)
-}
-
-fn same_site(a: Option<Site>, b: Option<Site>) -> bool {
-    let (Some(x), Some(y)) = (a, b) else {
-        return a.is_none() && b.is_none();
-    };
-    (x.importer == y.importer) & (x.target == y.target) & (x.flags == y.flags)
-}
-
-fn same_symbol(a: Option<Symbol>, b: Option<Symbol>) -> bool {
-    let (Some(x), Some(y)) = (a, b) else {
-        return a.is_none() && b.is_none();
-    };
-    (x.owner == y.owner) & (x.link == y.link) & (x.alias == y.alias) & (x.flags == y.flags)
-}
-
-fn same_export(a: Option<Export>, b: Option<Export>) -> bool {
-    match (a, b) {
-        (Some(x), Some(y)) => {
-            (x.symbol == y.symbol) & (x.commonjs == y.commonjs) & (x.name == y.name)
-        }
-        (None, None) => true,
-        _ => false,
-    }
-}
-
-fn same_name(a: Option<&[u8]>, b: Option<&[u8]>) -> bool {
-    match (a, b) {
-        (Some(x), Some(y)) => x == y,
-        (None, None) => true,
-        _ => false,
-    }
 }
 
 // Two tables answer the questions about the whole alike.
 fn same_header<'t, A: LinkTable<'t>, B: LinkTable<'t>>(a: &mut A, b: &mut B) -> bool {
     (a.module_count() == b.module_count())
-        & (a.entry_count() == b.entry_count())
-        & (a.symbol_count() == b.symbol_count())
-        & (a.runtime() == b.runtime())
-        & (a.strict() == b.strict())
+        && (a.entry_count() == b.entry_count())
+        && (a.symbol_count() == b.symbol_count())
+        && (a.runtime() == b.runtime())
+        && (a.strict() == b.strict())
 }
 
 // Two tables answer every question about number `k` and item `i` alike.
@@ -105,22 +41,12 @@ fn same_things<'t, A: LinkTable<'t>, B: LinkTable<'t>>(
     k: usize,
     i: usize,
 ) -> bool {
-    same_module(a.module(k), b.module(k))
-        & same_export(a.export(k, i), b.export(k, i))
-        & same_name(a.partial(k, i), b.partial(k, i))
-        & same_entry(a.entry(k), b.entry(k))
-        & same_site(a.site(k, i), b.site(k, i))
-        & same_symbol(a.symbol(k), b.symbol(k))
-}
-
-fn same_item<'t, A: LinkTable<'t>, B: LinkTable<'t>>(
-    a: &mut A,
-    b: &mut B,
-    list: ModuleList,
-    k: usize,
-    i: usize,
-) -> bool {
-    a.item(list, k, i) == b.item(list, k, i)
+    (a.module(k) == b.module(k))
+        && (a.export(k, i) == b.export(k, i))
+        && (a.partial(k, i) == b.partial(k, i))
+        && (a.entry(k) == b.entry(k))
+        && (a.site(k, i) == b.site(k, i))
+        && (a.symbol(k) == b.symbol(k))
 }
 
 static CASES: [&[u8]; 26] = [
@@ -256,10 +182,20 @@ fn records() -> RecordTable<'static> {
     }
 }
 
+// Line and column of a text that breaks the form, 0 and 0 where there is no fault, and 0 and 1 for any other. Numbers, since
+// the file that it is held to has two numbers on each line.
+fn shown(cause: Option<Cause>) -> (usize, usize) {
+    match cause {
+        Some(Cause::BrokenForm { line, column }) => (line, column),
+        Some(_) => (0, 1),
+        None => (0, 0),
+    }
+}
+
 // A line for each text: line and column of its first fault, 0 and 0 for a text that keeps the form.
 fn show_faults(rt: &HostRuntime) -> anyhow::Result<()> {
     for text in CASES.iter() {
-        let (line, column) = fault_of(rt.alloc(), text)?;
+        let (line, column) = shown(fault_of(rt.alloc(), text)?);
         println!(rt; "{line} {column}")?;
     }
     Ok(())
@@ -269,29 +205,41 @@ fn show_faults(rt: &HostRuntime) -> anyhow::Result<()> {
 fn show_names(rt: &HostRuntime) -> anyhow::Result<()> {
     for n in [0, 1, 255, 256] {
         let text = named(rt.alloc(), n)?;
-        let (line, column) = fault_of(rt.alloc(), text.as_slice())?;
+        let (line, column) = shown(fault_of(rt.alloc(), text.as_slice())?);
         println!(rt; "name of {n}: {line} {column}")?;
     }
     Ok(())
 }
 
+const LISTS: [ModuleList; 4] = [
+    ModuleList::Loads,
+    ModuleList::Dependencies,
+    ModuleList::Resolved,
+    ModuleList::References,
+];
+
+// Two tables answer every question about item `i` of a list of module `k` alike.
 fn same_items<'t, A: LinkTable<'t>, B: LinkTable<'t>>(
     a: &mut A,
     b: &mut B,
     k: usize,
     i: usize,
 ) -> bool {
-    same_item(a, b, ModuleList::Loads, k, i)
-        & same_item(a, b, ModuleList::Dependencies, k, i)
-        & same_item(a, b, ModuleList::Resolved, k, i)
-        & same_item(a, b, ModuleList::References, k, i)
+    // a `for`: no proof is made for a closure that holds both tables, as `all` would take
+    for list in LISTS {
+        if a.item(list, k, i) != b.item(list, k, i) {
+            return false;
+        }
+    }
+    true
 }
 
 // How many of the questions about numbers and items below 4, which are more than there are, are answered differently.
 fn differences<'t, A: LinkTable<'t>, B: LinkTable<'t>>(a: &mut A, b: &mut B) -> usize {
     let mut n: usize = 0;
+    // a `for`: no proof is made for a closure that holds both tables, as `filter` would take
     for q in 0..16 {
-        if !same_things(a, b, q / 4, q % 4) | !same_items(a, b, q / 4, q % 4) {
+        if !same_things(a, b, q / 4, q % 4) || !same_items(a, b, q / 4, q % 4) {
             n = n.saturating_add(1);
         }
     }

@@ -15,13 +15,14 @@ const QUESTIONS: usize = 1_000_000;
 // A module with three loads takes 50 bytes.
 const MODULE_BYTES: usize = 50;
 
+// The letter is the byte that is written.
 fn push_line(
     heap: Global,
     text: &mut Vec<u8>,
-    kind: u8,
+    letter: u8,
     fields: &[Option<usize>],
 ) -> Result<(), AllocError> {
-    let line = line_text(heap, kind, fields)?;
+    let line = line_text(heap, letter, fields)?;
     text.extend_from_slice(line.as_slice())
 }
 
@@ -45,6 +46,7 @@ fn text_of(heap: Global, modules: usize) -> Result<Vec<u8>, AllocError> {
 // The sum of what some questions answer, so that none is left out.
 fn ask<'t, T: LinkTable<'t>>(table: &mut T, modules: usize) -> u64 {
     let mut sum: u64 = 0;
+    // a `for`: a closure would hold the table, and what it leaves of it is not known
     for q in 0..QUESTIONS {
         if let Some(d) = table.item(ModuleList::Loads, q % modules.max(1), q % 4) {
             sum = sum.wrapping_add(u64::from(d));
@@ -69,9 +71,7 @@ fn measure(rt: &HostRuntime, modules: usize) -> anyhow::Result<()> {
 }
 
 fn main(rt: HostRuntime) -> anyhow::Result<()> {
-    let mut args = env::args(&rt)?;
-    let _program = args.next();
-    match args.next() {
+    match env::args(&rt)?.nth(1) {
         Some(bytes) => {
             let bytes = bytes.as_str().parse::<usize>()?;
             measure(&rt, (bytes / MODULE_BYTES).min(999_999))

@@ -1,3 +1,1 @@
-mod Found
 mod Links
-pub mod Mapped

@@ -1,6 +1,8 @@
 -- The causes of a refusal: the number of each, and the numbers that it returns beside the fault's thing and place.
-use Rattle.std.specs.Prelude.{ℕ, List, [], ◌∷◌}
+use Rattle.std.specs.Prelude.{ℕ, List, [], ◌∷◌, None}
 use Rattle.tables.specs.declared.fault.Cause.{Cause}
+use Rattle.tables.specs.declared.fault.Fault.{Fault}
+use Rattle.tables.specs.declared.thing.Field.TheVariants.{Whole}
 use Rattle.tables.specs.declared.fault.Cause.TheVariants.{BrokenForm, TooFewWords, TooMany, NamesNothing, EndlessLinks, NameTwice, TooManyAtoms, BegunAlready, NotBegun, NothingThere, ShortBuffer}
 
 -- what is told of a refusal
@@ -26,3 +28,7 @@ told ShortBuffer = telling 11 []
 
 abbrev pub number_of : Cause → ℕ
 number_of c = (told c).number
+
+-- a refusal that speaks of no thing, and has no place
+abbrev pub bare_fault : {P : Type 0} → Cause → Fault P
+bare_fault c = record { cause = c; thing = None; field = Whole; place = None }

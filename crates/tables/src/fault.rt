@@ -1,10 +1,11 @@
-// Why a call is refused. This is the one place that has the numbers of the causes.
+// Why a call is refused. This is the one place that has the numbers of the causes: a case that carries values has no
+// discriminant to cast.
 ghost use Rattle.std.specs.Prelude.{◌≡◌};
-ghost use Rattle.tables.specs.Causes.{number_of};
+ghost use Rattle.tables.specs.Causes.{number_of, bare_fault};
 
 use crate::thing::{Field, Thing};
 
-#[derive(Clone, Copy)]
+#[derive(Clone, Copy, Debug, PartialEq, Eq)]
 pub enum Cause {
     // the text breaks the form: line and column of the first wrong or missing line
     BrokenForm { line: usize, column: usize },
@@ -50,10 +51,24 @@ impl Cause {
 }
 
 // A refusal: its cause, the thing that it speaks of, which field of it, and where that stands in the table's own kind of place.
-#[derive(Drop)]
+#[derive(Debug, PartialEq, Eq, Drop)]
 pub struct Fault<P> {
     pub cause: Cause,
     pub thing: Option<Thing>,
     pub field: Field,
     pub place: Option<P>,
+}
+
+// A refusal that speaks of no thing.
+impl<P> From<Cause> for Fault<P> {
+    ghost from_gives = { λ c f. f ≡ bare_fault c };
+
+    fn from(cause: Cause) -> Fault<P> {
+        Fault {
+            cause,
+            thing: None,
+            field: Field::Whole,
+            place: None,
+        }
+    }
 }

@@ -1,7 +1,13 @@
 // What a table answers: its parts, as they stand there. Nothing says that a number names something.
+// Flags and wraps are numbers, since a table also answers those that are too large: the checks refuse them with their place.
+
+// The flags of a module that say whether it is normal and whether it is included.
+pub const NORMAL: u32 = 1;
+
+pub const INCLUDED: u32 = 2;
 
 // A module without the items of its lists: how many there are.
-#[derive(Clone, Copy)]
+#[derive(Clone, Copy, Debug, PartialEq, Eq)]
 pub struct ModuleInfo {
     // the sum of the flags: 1 normal, 2 included, 4 side effects, 8 inner, 16 namespace included, 32 dynamic exports,
     // 64 side-effectful runtime dependency, 128 partial use
@@ -19,7 +25,7 @@ pub struct ModuleInfo {
 }
 
 // An export: its name is a part of the table's own storage.
-#[derive(Clone, Copy)]
+#[derive(Clone, Copy, Debug, PartialEq, Eq)]
 pub struct Export<'t> {
     pub symbol: u32,
     pub commonjs: bool,
@@ -27,7 +33,7 @@ pub struct Export<'t> {
 }
 
 // An entry without its sites: how many there are.
-#[derive(Clone, Copy)]
+#[derive(Clone, Copy, Debug, PartialEq, Eq)]
 pub struct EntryInfo {
     pub root: u32,
     // the sum of the flags: 1 dynamic, 2 its chunk is imported dynamically and nothing else, 4 async, 8 strict signature
@@ -36,7 +42,7 @@ pub struct EntryInfo {
 }
 
 // A site that imports an entry.
-#[derive(Clone, Copy)]
+#[derive(Clone, Copy, Debug, PartialEq, Eq)]
 pub struct Site {
     pub importer: u32,
     pub target: Option<u32>,
@@ -44,7 +50,7 @@ pub struct Site {
     pub flags: u32,
 }
 
-#[derive(Clone, Copy)]
+#[derive(Clone, Copy, Debug, PartialEq, Eq)]
 pub struct Symbol {
     pub owner: u32,
     // the symbol itself at the end of a chain

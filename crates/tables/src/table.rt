@@ -9,6 +9,8 @@ use crate::thing::{Field, ModuleList, Thing};
 
 // A link table. It means a value and the places of its things; each question answers its part of that, or none beyond a
 // count, and leaves the meaning as it was. A name lives as long as the table's storage, `'t`.
+// A question takes `&mut self`, since a table may count its questions or read on demand: so each says that it has `kept` the
+// meaning, and no type can say it. Module and item are two arguments, since each question takes the numbers of its own things.
 pub trait LinkTable<'t> {
     // where a thing stands in a table of this kind
     type Place;

@@ -1,7 +1,7 @@
 // What stands in a table, as a question or a fault names it.
 
 // A list of numbers that each module has.
-#[derive(Clone, Copy)]
+#[derive(Clone, Copy, Debug, PartialEq, Eq)]
 pub enum ModuleList {
     // L: the modules that it loads
     Loads,
@@ -14,7 +14,7 @@ pub enum ModuleList {
 }
 
 // A thing of a table: a record of its own, or a line in a text. Numbers count from 0.
-#[derive(Clone, Copy)]
+#[derive(Clone, Copy, Debug, PartialEq, Eq)]
 pub enum Thing {
     // counts, runtime and strict
     Header,
@@ -32,7 +32,7 @@ pub enum Thing {
 }
 
 // What of a thing is meant: the thing as a whole, or one of its fields.
-#[derive(Clone, Copy)]
+#[derive(Clone, Copy, Debug, PartialEq, Eq)]
 pub enum Field {
     Whole,
     // of the header

@@ -1,6 +1,6 @@
 // A veto: a yes or no for each rising list of modules.
 ghost use Rattle.std.specs.Prelude.{◌≡◌, ℕ, Bool, false, List};
-ghost use Rattle.tables.specs.Vetoes.{among, any_among};
+ghost use Rattle.tables.specs.Vetoes.{any_among};
 
 // Whether folding an atom's modules into another chunk is objected to: the same answer whenever it is asked.
 pub trait Veto {
@@ -12,7 +12,7 @@ pub trait Veto {
 }
 
 // Never objects.
-#[derive(Clone, Copy)]
+#[derive(Clone, Copy, Debug, PartialEq, Eq)]
 pub struct Never;
 
 impl Veto for Never {
@@ -24,31 +24,15 @@ impl Veto for Never {
 }
 
 // Objects to a list that has a protected module.
-#[derive(Clone, Copy)]
+#[derive(Clone, Copy, Debug, PartialEq, Eq)]
 pub struct Protected<'p> {
     pub modules: &'p [u64],
-}
-
-fn is_among(list: &[u64], m: u64) -> bool
-    ensures { result ≡ among list.now m }
-{
-    for x in list {
-        if *x == m {
-            return true;
-        }
-    }
-    false
 }
 
 impl<'p> Veto for Protected<'p> {
     ghost objects = { λ p. any_among p.modules.now };
 
     fn objects_to(&mut self, modules: &[u64]) -> bool {
-        for m in modules {
-            if is_among(self.modules, *m) {
-                return true;
-            }
-        }
-        false
+        modules.iter().any(|m| self.modules.contains(m))
     }
 }

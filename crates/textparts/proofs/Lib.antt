@@ -2,4 +2,3 @@ mod Digits
 mod Bodies
 mod Spent
 pub mod Whole
-pub mod Found

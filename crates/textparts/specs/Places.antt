@@ -56,6 +56,13 @@ lines_in Dependencies m = m.dependencies
 lines_in Resolved m = m.resolved
 lines_in References m = m.references
 
+-- their letter
+abbrev pub letter_of : ModuleList → ℕ
+letter_of Loads = 76
+letter_of Dependencies = 68
+letter_of Resolved = 82
+letter_of References = 85
+
 -- the line that a thing stands in, none where it is not there
 abbrev pub line_in : TextLines → Thing → Option LineAt
 line_in t thing.Header = Some t.head

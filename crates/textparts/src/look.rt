@@ -1,46 +1,110 @@
-// Rows and lines by number.
+// Rows and lines by the numbers of a thing: none where the thing is not there.
 ghost use Rattle.std.specs.Prelude.{◌≡◌, map};
 ghost use Rattle.std.specs.List.{slice_get};
 ghost use Rattle.std.specs.Option.{option_map};
-ghost use Rattle.texts.specs.Rows.{numbered_value, module_value, text_value};
-ghost use Rattle.textparts.specs.Places.{lines_in, line_in};
+ghost use Rattle.lines.specs.Values.{item_value, number_value, export_value, partial_value, site_value, symbol_value};
+ghost use Rattle.tables.specs.declared.thing.Thing.TheVariants.{Item, Export, Partial, Site, Symbol};
+ghost use Rattle.texts.specs.Rows.{numbered_by, module_value, entry_value, text_value};
+ghost use Rattle.textparts.specs.Places.{letter_of, lines_in, line_in, line_of_thing};
 
+use lines::{ExportLine, ItemLine, PartialLine, SiteLine, SymbolLine};
 use tables::thing::{ModuleList, Thing};
-use texts::{ModuleRow, Numbered, TextRows};
+use texts::{EntryRow, ModuleRow, Numbered, TextRows};
 
-// The element of `list` at `i`, or none past its end.
-pub fn at<'r, X>(list: &'r [X], i: usize) -> Option<&'r X>
-    ensures { option_map (λ x. x.now) result ≡ slice_get list.now i }
+// An item of a list, with the number of its line.
+fn item_at<const LETTER: u8>(
+    items: &[Numbered<ItemLine<LETTER>>],
+    i: usize,
+) -> Option<Numbered<u32>>
+    ensures { option_map (numbered_by (number_value LETTER)) result
+        ≡ slice_get (map (numbered_by (item_value LETTER)) items.now) i }
 {
-    if i < list.len() { Some(&list[i]) } else { None }
+    let item = items.get(i)?;
+    Some(Numbered {
+        number: item.number,
+        line: item.line.number,
+    })
 }
 
-// The lines of a module's list of numbers.
-fn list_in<'r, 't>(row: &'r ModuleRow<'t>, list: ModuleList) -> &'r [Numbered<'t>]
-    ensures { map numbered_value result.now ≡ lines_in list (module_value row.now) }
+// An item of a module's list of numbers. The records have the like (`list_in`) over one type of list: here the four lists
+// have four types of lines, since the letter is part of a line's type.
+fn item_in(row: &ModuleRow, list: ModuleList, i: usize) -> Option<Numbered<u32>>
+    ensures { option_map (numbered_by (number_value (letter_of list))) result
+        ≡ slice_get (lines_in list (module_value row.now)) i }
 {
     match list {
-        ModuleList::Loads => row.loads.as_slice(),
-        ModuleList::Dependencies => row.dependencies.as_slice(),
-        ModuleList::Resolved => row.resolved.as_slice(),
-        ModuleList::References => row.references.as_slice(),
+        ModuleList::Loads => item_at(&row.loads, i),
+        ModuleList::Dependencies => item_at(&row.dependencies, i),
+        ModuleList::Resolved => item_at(&row.resolved, i),
+        ModuleList::References => item_at(&row.references, i),
     }
 }
 
-// The line that a thing stands in, or none where it is not there.
-pub fn line_of<'r, 't>(rows: &'r TextRows<'t>, thing: Thing) -> Option<&'r Numbered<'t>>
-    ensures { option_map (λ n. numbered_value n.now) result ≡ line_in (text_value rows.now) thing }
+pub fn module_row<'r, 't>(rows: &'r TextRows<'t>, m: usize) -> Option<&'r ModuleRow<'t>>
+    ensures { option_map (λ row. module_value row.now) result ≡ slice_get (text_value rows.now).modules m }
 {
-    let modules = rows.modules.as_slice();
-    let entries = rows.entries.as_slice();
+    rows.modules.get(m)
+}
+
+pub fn entry_row<'r>(rows: &'r TextRows, e: usize) -> Option<&'r EntryRow>
+    ensures { option_map (λ row. entry_value row.now) result ≡ slice_get (text_value rows.now).entries e }
+{
+    rows.entries.get(e)
+}
+
+// The number in the line of an item.
+pub fn item_line(rows: &TextRows, list: ModuleList, m: usize, i: usize) -> Option<Numbered<u32>>
+    ensures { option_map (numbered_by (number_value (letter_of list))) result
+        ≡ line_in (text_value rows.now) (Item list m i) }
+{
+    item_in(module_row(rows, m)?, list, i)
+}
+
+pub fn export_line<'r, 't>(
+    rows: &'r TextRows<'t>,
+    m: usize,
+    i: usize,
+) -> Option<&'r Numbered<ExportLine<'t>>>
+    ensures { option_map (λ n. numbered_by export_value n.now) result ≡ line_in (text_value rows.now) (Export m i) }
+{
+    module_row(rows, m)?.exports.get(i)
+}
+
+pub fn partial_line<'r, 't>(
+    rows: &'r TextRows<'t>,
+    m: usize,
+    i: usize,
+) -> Option<&'r Numbered<PartialLine<'t>>>
+    ensures { option_map (λ n. numbered_by partial_value n.now) result
+        ≡ line_in (text_value rows.now) (Partial m i) }
+{
+    module_row(rows, m)?.partial.get(i)
+}
+
+pub fn site_line<'r>(rows: &'r TextRows, e: usize, i: usize) -> Option<&'r Numbered<SiteLine>>
+    ensures { option_map (λ n. numbered_by site_value n.now) result ≡ line_in (text_value rows.now) (Site e i) }
+{
+    entry_row(rows, e)?.sites.get(i)
+}
+
+pub fn symbol_line<'r>(rows: &'r TextRows, s: usize) -> Option<&'r Numbered<SymbolLine>>
+    ensures { option_map (λ n. numbered_by symbol_value n.now) result ≡ line_in (text_value rows.now) (Symbol s) }
+{
+    rows.symbols.get(s)
+}
+
+// The number of the line that a thing stands in.
+pub fn line_of(rows: &TextRows, thing: Thing) -> Option<usize>
+    ensures { result ≡ line_of_thing (text_value rows.now) thing }
+{
     match thing {
-        Thing::Header => Some(&rows.head),
-        Thing::Module(m) => Some(&at(modules, m)?.head),
-        Thing::Item(list, m, i) => at(list_in(at(modules, m)?, list), i),
-        Thing::Export(m, i) => at(at(modules, m)?.exports.as_slice(), i),
-        Thing::Partial(m, i) => at(at(modules, m)?.partial.as_slice(), i),
-        Thing::Entry(e) => Some(&at(entries, e)?.head),
-        Thing::Site(e, i) => at(at(entries, e)?.sites.as_slice(), i),
-        Thing::Symbol(s) => at(rows.symbols.as_slice(), s),
+        Thing::Header => Some(rows.head.number),
+        Thing::Module(m) => module_row(rows, m).map(|row| row.head.number),
+        Thing::Item(list, m, i) => item_line(rows, list, m, i).map(|n| n.number),
+        Thing::Export(m, i) => export_line(rows, m, i).map(|n| n.number),
+        Thing::Partial(m, i) => partial_line(rows, m, i).map(|n| n.number),
+        Thing::Entry(e) => entry_row(rows, e).map(|row| row.head.number),
+        Thing::Site(e, i) => site_line(rows, e, i).map(|n| n.number),
+        Thing::Symbol(s) => symbol_line(rows, s).map(|n| n.number),
     }
 }

@@ -1,4 +1,4 @@
 mod Cuts
+mod OneKind
 mod Parts
-mod Trees
 mod Times

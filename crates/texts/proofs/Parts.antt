@@ -6,41 +6,31 @@ use Rattle.lines.specs.Lines.{LineValue, line_of}
 use Rattle.texts.specs.Form.{LineAt, line_at, At, at, Step, place, placed, starts, one_line, one, before, many_lines, many}
 use Rattle.texts.specs.declared.unreadable.Unreadable.{Unreadable}
 use Rattle.texts.specs.declared.unreadable.Unreadable.TheVariants.{Memory, Form}
-use Rattle.texts.specs.Exact.{next_starts, Exactly, added, Grown}
+use Rattle.texts.specs.Exact.{next_starts, Exactly}
 
 -- what was read before, in front of what is read
 abbrev pub pushed : {A : Type 0} → List A → Step (List A) → Step (List A)
 pushed olds s = bind s (λ x. Ok (olds ++ x.0, x.1))
 
-pub pushed_none : {A : Type 0} (s : Step (List A)) → pushed [] s ≡ s
-pushed_none (Ok x) = refl
-pushed_none (Err p) = refl
-
-pub pushed_before : {A : Type 0} (olds : List A) (v : A) (s : Step (List A)) → pushed olds (before v s) ≡ pushed (olds ++ v ∷ []) s
+pushed_before : {A : Type 0} (olds : List A) (v : A) (s : Step (List A)) → pushed olds (before v s) ≡ pushed (olds ++ v ∷ []) s
 pushed_before olds v (Ok x) = ap (λ l. Ok (l, x.1)) (sym (append_assoc olds (v ∷ []) x.0))
 pushed_before olds v (Err p) = refl
 
 -- one thing more, and then the rest
-pub pushed_added : {A : Type 0} (olds : List A) (s : Step A) (rest : At → Step (List A)) →
-    pushed olds (bind s (λ a. before a.0 (rest a.1))) ≡ bind (added olds s) (λ b. pushed b.0 (rest b.1))
-pushed_added olds (Ok a) rest = pushed_before olds a.0 (rest a.1)
-pushed_added olds (Err p) rest = refl
+pub pushed_step : {A : Type 0} (olds : List A) (s : Step A) (rest : At → Step (List A)) →
+    pushed olds (bind s (λ a. before a.0 (rest a.1))) ≡ bind s (λ a. pushed (olds ++ a.0 ∷ []) (rest a.1))
+pushed_step olds (Ok a) rest = pushed_before olds a.0 (rest a.1)
+pushed_step olds (Err p) rest = refl
 
--- a row that is pushed, or refused for want of memory
-pub added_row : {A B U : Type 0} (f : A → B) (olds news : List A) (x : A) (v : Result U Unreadable) (s : Step B) (q : At) →
-    Grown olds x news v → s ≡ Ok (f x, q) → Exactly (λ _. map f news) v q (added (map f olds) s)
-added_row f olds news x (Ok u) s q g h = ap (added (map f olds)) h ∙ ap (λ l. Ok (l, q)) (sym (ap (map f) g ∙ map_push f olds x))
-added_row f olds news x (Err Memory) s q g h = tt
-added_row f olds news x (Err (Form p)) s q g h = absurd (let z : ◌≡◌ {A = ℕ} 0 1 = cc in omega arith)
+-- what is read and pushed, by its value
+pub pushed_row : {A B : Type 0} (f : A → B) (olds news : List A) (x : A) (s : Step (List B)) → news ≡ olds ++ x ∷ [] →
+    pushed (map f olds ++ f x ∷ []) s ≡ pushed (map f news) s
+pushed_row f olds news x s e = ap (λ l. pushed l s) (sym (ap (map f) e ∙ map_push f olds x))
 
 -- how many lines are left
 abbrev left_by : {A : Type 0} → Step A → ℕ
 left_by (Ok s) = length s.1.left
 left_by (Err p) = 0
-
-left_added : {A : Type 0} (olds : List A) (s : Step A) → left_by (added olds s) ≡ left_by s
-left_added olds (Ok a) = refl
-left_added olds (Err p) = refl
 
 -- a line that is read, and the next
 abbrev taken : Bool → ℕ → List (List ℕ) → Result LineValue ℕ → Step LineAt
@@ -80,20 +70,24 @@ module _ (k : ℕ) (p : At) (olds : List LineAt) where
   pub many_stop : (all : Step (List LineAt)) → next_starts k p.left ≡ false → pushed olds (many k p) ≡ all → all ≡ Ok (olds, p)
   many_stop all e inv = sym inv ∙ ap (pushed olds) (stop k p.whole p.line p.left e) ∙ ap (λ l. Ok (l, p)) (append-nil olds)
 
-  one_more : (r : Step (List LineAt)) → next_starts k p.left ≡ true → added olds (one k p) ≡ r →
-      pushed olds (many k p) ≡ bind r (λ b. pushed b.0 (many k b.1))
+  one_more : (r : Step LineAt) → next_starts k p.left ≡ true → one k p ≡ r → pushed olds (many k p) ≡ bind r (λ a. pushed (olds ++ a.0 ∷ []) (many k a.1))
   one_more r e h =
-      ap (pushed olds) (step k p.whole p.line p.left e) ∙ pushed_added olds (one k p) (many k) ∙ ap (λ s. bind s (λ b. pushed b.0 (many k b.1))) h
-
-  pub many_again : (q : At) (news : List LineAt) (all : Step (List LineAt)) → next_starts k p.left ≡ true →
-      pushed olds (many k p) ≡ all → added olds (one k p) ≡ Ok (news, q) → pushed news (many k q) ≡ all
-  many_again q news all e inv h = sym (one_more (Ok (news, q)) e h) ∙ inv
+      ap (pushed olds) (step k p.whole p.line p.left e) ∙ pushed_step olds (one k p) (many k)
+      ∙ ap (λ s. bind s (λ a. pushed (olds ++ a.0 ∷ []) (many k a.1))) h
 
   -- a fault of one line is the fault of all
-  pub many_exit : {U V : Type 0} (f : U → List LineAt) (g : V → List LineAt) (q t : At) (all : Step (List LineAt)) (e : Unreadable) → next_starts k p.left ≡ true →
-      pushed olds (many k p) ≡ all → Exactly f (Err e) q (added olds (one k p)) → Exactly g (Err e) t all
+  pub many_exit : {U V : Type 0} (f : U → LineAt) (g : V → List LineAt) (q t : At) (all : Step (List LineAt)) (e : Unreadable) → next_starts k p.left ≡ true →
+      pushed olds (many k p) ≡ all → Exactly f (Err e) q (one k p) → Exactly g (Err e) t all
   many_exit f g q t all Memory e inv h = tt
   many_exit f g q t all (Form x) e inv h = sym inv ∙ one_more (Err x) e h
 
-  pub one_less : (q : At) (news : List LineAt) → next_starts k p.left ≡ true → added olds (one k p) ≡ Ok (news, q) → length q.left < length p.left
-  one_less q news e h = omega (arith, less k p.whole p.line p.left e, left_added olds (one k p), ap left_by h)
+  pub one_less : (q : At) (v : LineAt) → next_starts k p.left ≡ true → one k p ≡ Ok (v, q) → length q.left < length p.left
+  one_less q v e h = omega (arith, less k p.whole p.line p.left e, ap left_by h)
+
+-- one line more, by its value
+pub many_more : {A : Type 0} (f : A → LineAt) (k : ℕ) (p q : At) (olds news : List A) (x : A) (all : Step (List LineAt)) → next_starts k p.left ≡ true →
+    pushed (map f olds) (many k p) ≡ all → one k p ≡ Ok (f x, q) → news ≡ olds ++ x ∷ [] → pushed (map f news) (many k q) ≡ all
+many_more f k p q olds news x all e inv h grown = sym (pushed_row f olds news x (many k q) grown) ∙ sym (one_more k p (map f olds) (Ok (f x, q)) e h) ∙ inv
+
+-- the end of a loop that reads as many lines as have a letter, and its measure
+pub ruleset reading_many = (many_stop, many_exit, one_less)

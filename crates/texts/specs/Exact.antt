@@ -1,11 +1,10 @@
 -- The code's reading against the form's.
-use Rattle.std.specs.Prelude.{◌≡◌, ℕ, Bool, false, List, [], ◌∷◌, ◌++◌, Ok, Err, Result}
+use Rattle.std.specs.Prelude.{◌≡◌, ℕ, Bool, false, List, [], ◌∷◌, Ok, Err, Result}
 use Rattle.std.specs.Option.{option_map}
 use Rattle.texts.specs.declared.reader.Reader.{Reader}
 use Rattle.texts.specs.declared.unreadable.Unreadable.{Unreadable}
 use Rattle.texts.specs.declared.unreadable.Unreadable.TheVariants.{Memory, Form}
 use Rattle.texts.specs.Cut.{held_lines, held_whole}
-use Rattle.lines.specs.Field.{bind}
 use Rattle.texts.specs.Form.{At, at, Step, starts}
 
 -- where a reader is
@@ -31,12 +30,3 @@ Exactly f (Err (Form p)) q s = s ≡ Err p
 abbrev pub next_starts : ℕ → List (List ℕ) → Bool
 next_starts k [] = false
 next_starts k (l ∷ ls) = starts k l
-
--- a list of what was read, with what is read next at its end
-abbrev pub added : {A : Type 0} → List A → Step A → Step (List A)
-added olds s = bind s (λ x. Ok (olds ++ x.0 ∷ [], x.1))
-
--- the list has one item more, or there is no memory for it
-abbrev pub Grown : {A U : Type 0} → List A → A → List A → Result U Unreadable → Type 0
-Grown olds x news (Ok u) = news ≡ olds ++ x ∷ []
-Grown olds x news (Err e) = e ≡ Memory

@@ -9,7 +9,6 @@ pub use unreadable::Unreadable;
 mod cut;
 mod parse;
 mod place;
-mod push;
 mod reader;
 mod reading;
 mod rows;

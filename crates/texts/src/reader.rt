@@ -2,8 +2,12 @@
 ghost use Rattle.std.specs.Prelude.{◌+◌, ◌^◌, ◌<◌, length};
 ghost use Rattle.texts.specs.Cut.{ahead};
 
-#[derive(Drop)]
+use std::alloc::Global;
+
+#[derive(Debug, Drop)]
 pub(crate) struct Reader<'t> {
+    // where what is read is kept
+    pub(crate) heap: Global,
     // the next line, without the byte 10 that ends it
     pub(crate) next: Option<&'t [u8]>,
     // what follows the next line, or the unfinished rest where there is none

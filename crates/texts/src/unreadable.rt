@@ -1,11 +1,12 @@
 // Why a text gives no rows.
 ghost use Rattle.std.specs.Prelude.{◌≡◌};
-ghost use Rattle.texts.specs.declared.unreadable.Unreadable.TheVariants.{Memory};
+ghost use Rattle.texts.specs.Form.{place};
+ghost use Rattle.texts.specs.declared.unreadable.Unreadable.TheVariants.{Memory, Form};
 
 use crate::place::TextPlace;
 use std::alloc::{AllocError, AllocFailed};
 
-#[derive(Drop)]
+#[derive(Debug, Clone, Copy, PartialEq, Eq)]
 pub enum Unreadable {
     // no memory for the rows
     Memory,
@@ -13,6 +14,16 @@ pub enum Unreadable {
     Form(TextPlace),
 }
 
+impl Unreadable {
+    // A line is wrong, or missing, in this column.
+    pub(crate) fn at(line: usize, column: usize) -> Unreadable
+        ensures { result ≡ Form (place line column) }
+    {
+        Unreadable::Form(TextPlace { line, column })
+    }
+}
+
+// For what allocates otherwise; nothing in this crate does.
 impl From<AllocError> for Unreadable {
     ghost from_gives = { λ _ r. r ≡ Memory };
 
@@ -21,6 +32,7 @@ impl From<AllocError> for Unreadable {
     }
 }
 
+// A list that grows fails with an error of its own, which holds what was to be added.
 impl<T: Drop> From<AllocFailed<T>> for Unreadable {
     ghost from_gives = { λ _ r. r ≡ Memory };
 

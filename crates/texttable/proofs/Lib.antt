@@ -1,1 +1,1 @@
-mod Openings
+pub mod Openings

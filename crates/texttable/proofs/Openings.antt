@@ -1,12 +1,12 @@
 -- The table that is opened over a text, where the text keeps the form and where it does not.
-use Rattle.std.proofs.Common.{◌≡◌, ℕ, List, Some, None, Ok, Err, Option, sym, ap, ◌∙◌, arith}
+use Rattle.std.proofs.Common.{◌≡◌, ℕ, List, Some, None, Ok, Err, Option, Result, sym, ap, ◌∙◌, arith}
 use Rattle.lines.specs.Field.{bind}
 use Rattle.texts.specs.declared.place.TextPlace.{TextPlace}
 use Rattle.texts.specs.declared.rows.TextRows.{TextRows}
-use Rattle.texts.specs.Form.{parsed}
+use Rattle.texts.specs.Form.{TextLines, parsed}
 use Rattle.texts.specs.Rows.{text_value}
-use Rattle.textparts.specs.Said.{table_of}
-use Rattle.texttable.specs.Texts.{empty_lines, or_empty, fault_of, meaning_in, meaning_of, Opened}
+use Rattle.textparts.specs.Said.{table_of, opened}
+use Rattle.texttable.specs.Texts.{or_empty, fault_of, meaning_in, meaning_of, refused_at, Opened}
 use Rattle.texttable.specs.declared.table.TextTable.{TextTable}
 use Rattle.textparts.proofs.Whole.{only_text}
 
@@ -23,12 +23,10 @@ kept_opened text rows e = record {
   empty = λ p h. absurd (let z : ◌≡◌ {A = ℕ} 0 1 = cc in omega arith);
 }
 
-pub refused_opened : (text : List ℕ) (rows : TextRows) (p : TextPlace) → parsed text ≡ Err p → text_value rows ≡ empty_lines → Opened text (table rows (Some p))
-unfolding meaning_of
-refused_opened text rows p e none = record {
-  means = ap meaning_in none ∙ ap (λ r. meaning_in (or_empty r)) (sym e);
-  refused = ap fault_of (sym e);
-  says = λ h. absurd (let z : ◌≡◌ {A = ℕ} 0 1 = cc in omega arith);
-  same_text = λ h. absurd (let z : ◌≡◌ {A = ℕ} 0 1 = cc in omega arith);
-  empty = λ q h. ap table_of none;
-}
+-- a text that is refused says no table, and is refused at that place
+pub refused_text : (text : List ℕ) (t : TextTable) (p : TextPlace) → Opened text t → refused_at t ≡ Some p → opened text ≡ Err p
+refused_text text t p o e = way (parsed text) (sym e ∙ o.refused)
+  where
+    way : (r : Result TextLines TextPlace) → Some p ≡ fault_of r → bind r (λ l. Ok (table_of l)) ≡ Err p
+    way (Ok l) h = cc
+    way (Err q) h = let same : p ≡ q = cc in ap Err (sym same)

@@ -1,18 +1,24 @@
 // The table over a text.
+#![tactic(auto, unfolding(crate::specs::Texts::meaning_of))]
+
 ghost use Rattle.std.specs.Prelude.{◌≡◌, IfOk};
 ghost use Rattle.texts.specs.Rows.{text_value};
 ghost use Rattle.texttable.specs.Texts.{empty_lines, meaning_of, refused_at, checked, Opened};
 
-use lines::Line;
+use lines::TableLine;
 use std::alloc::{AllocError, Global};
 use tables::fault::{Cause, Fault};
 use tables::parts::{EntryInfo, Export, ModuleInfo, Site, Symbol};
 use tables::table::LinkTable;
 use tables::thing::{Field, ModuleList, Thing};
-use textparts::{at, entry_info, export_of, line_column, line_of, module_info, site_of, symbol_of};
+use textparts::{
+    entry_info, entry_row, export_line, export_of, item_line, line_column, line_of, module_info,
+    module_row, partial_line, site_line, site_of, symbol_line, symbol_of,
+};
 use texts::{Numbered, TextPlace, TextRows, Unreadable, read_text};
 
-// The rows of a text, and the place at which it is refused. The rows of a text that is refused are empty.
+// The rows of a text, and the place at which it is refused. The rows of a text that is refused are empty:
+// two fields and not one or the other, since the empty table answers each question too, and its header has a place.
 #[derive(Drop)]
 pub struct TextTable<'t> {
     rows: TextRows<'t>,
@@ -23,14 +29,13 @@ pub struct TextTable<'t> {
 fn no_rows<'t>(heap: Global) -> TextRows<'t>
     ensures { text_value result ≡ empty_lines }
 {
-    let line = Line::Table {
+    let line = TableLine {
         modules: 0,
         entries: 0,
         symbols: 0,
         runtime: None,
-        strict: 0,
-    }
-    .fields();
+        strict: false,
+    };
     TextRows {
         head: Numbered { number: 1, line },
         modules: Vec::new(heap),
@@ -76,6 +81,7 @@ impl<'t> TextTable<'t> {
     }
 }
 
+// `|row| module_info(row)` and the like: a function of another crate, passed by its name, gets no proof.
 impl<'t> LinkTable<'t> for TextTable<'t> {
     type Place = TextPlace;
 
@@ -94,52 +100,44 @@ impl<'t> LinkTable<'t> for TextTable<'t> {
     }
 
     fn runtime(&mut self) -> Option<u32> {
-        self.rows.head.line.field(3)
+        self.rows.head.line.runtime
     }
 
     fn strict(&mut self) -> bool {
-        self.rows.head.line.number(4) == 1
+        self.rows.head.line.strict
     }
 
     fn module(&mut self, m: usize) -> Option<ModuleInfo> {
-        let row = at(self.rows.modules.as_slice(), m)?;
-        Some(module_info(row))
+        module_row(&self.rows, m).map(|row| module_info(row))
     }
 
     fn item(&mut self, list: ModuleList, m: usize, i: usize) -> Option<u32> {
-        let n = line_of(&self.rows, Thing::Item(list, m, i))?;
-        Some(n.line.number(0))
+        item_line(&self.rows, list, m, i).map(|n| n.line)
     }
 
     fn export(&mut self, m: usize, i: usize) -> Option<Export<'t>> {
-        let n = line_of(&self.rows, Thing::Export(m, i))?;
-        Some(export_of(*n))
+        export_line(&self.rows, m, i).map(|n| export_of(*n))
     }
 
     fn partial(&mut self, m: usize, i: usize) -> Option<&'t [u8]> {
-        let n = line_of(&self.rows, Thing::Partial(m, i))?;
-        Some(n.line.name)
+        partial_line(&self.rows, m, i).map(|n| n.line.name)
     }
 
     fn entry(&mut self, e: usize) -> Option<EntryInfo> {
-        let row = at(self.rows.entries.as_slice(), e)?;
-        Some(entry_info(row))
+        entry_row(&self.rows, e).map(|row| entry_info(row))
     }
 
     fn site(&mut self, e: usize, i: usize) -> Option<Site> {
-        let n = line_of(&self.rows, Thing::Site(e, i))?;
-        Some(site_of(*n))
+        site_line(&self.rows, e, i).map(|n| site_of(*n))
     }
 
     fn symbol(&mut self, s: usize) -> Option<Symbol> {
-        let n = line_of(&self.rows, Thing::Symbol(s))?;
-        Some(symbol_of(*n))
+        symbol_line(&self.rows, s).map(|n| symbol_of(*n))
     }
 
     fn place_of(&mut self, thing: Thing, field: Field) -> Option<TextPlace> {
-        let n = line_of(&self.rows, thing)?;
-        Some(TextPlace {
-            line: n.number,
+        line_of(&self.rows, thing).map(|line| TextPlace {
+            line,
             column: line_column(thing, field),
         })
     }

@@ -13,21 +13,16 @@ fn digit_text(v: usize) -> u8
     if v == 0 { b' ' } else { b'0' + (v % 10) as u8 }
 }
 
-// A number in six columns.
+// A number in six columns: of a longer one the last six digits, where a width of `write!` would write more columns.
 pub fn number_text(v: usize) -> [u8; 6]
     ensures { result ≡ number6 v }
 {
-    let tens = v / 10;
-    let hundreds = tens / 10;
-    let thousands = hundreds / 10;
-    let myriads = thousands / 10;
-    let lakhs = myriads / 10;
     [
-        digit_text(lakhs),
-        digit_text(myriads),
-        digit_text(thousands),
-        digit_text(hundreds),
-        digit_text(tens),
+        digit_text(v / 100_000),
+        digit_text(v / 10_000),
+        digit_text(v / 1_000),
+        digit_text(v / 100),
+        digit_text(v / 10),
         b'0' + (v % 10) as u8,
     ]
 }
@@ -36,21 +31,17 @@ pub fn number_text(v: usize) -> [u8; 6]
 pub fn field_text(v: Option<usize>) -> [u8; 6]
     ensures { result ≡ field6 v }
 {
-    match v {
-        Some(n) => number_text(n),
-        None => [b' '; 6],
-    }
+    v.map_or([b' '; 6], number_text)
 }
 
-// A line of fields.
-pub fn line_text(heap: Global, kind: u8, fields: &[Option<usize>]) -> Result<Vec<u8>, AllocError>
-    ensures { IfOk result (λ v. v.items ≡ fields_line kind fields.now) }
+// A line of fields, behind its letter: a byte and no enum, since it is the byte that is written.
+pub fn line_text(heap: Global, letter: u8, fields: &[Option<usize>]) -> Result<Vec<u8>, AllocError>
+    ensures { IfOk result (λ v. v.items ≡ fields_line letter fields.now) }
 {
-    let mut out = Vec::new(heap);
-    out.push(kind)?;
+    let mut out = vec![in heap; letter]?;
     for f in fields {
         out.extend_from_slice(&field_text(*f))?;
     }
-    out.push(10)?;
+    out.push(b'\n')?;
     Ok(out)
 }

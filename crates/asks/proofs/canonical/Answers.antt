@@ -1,33 +1,21 @@
-use Rattle.std.proofs.Common.{ap, ◌∙◌}
-use Rattle.tables.specs.View.{view, symbol_at}
-use Rattle.asks.proofs.Walks.{walk_on, walk_ends, walk_over}
+use Rattle.std.proofs.Common.{arith}
+use Rattle.tables.specs.View.{view}
+use Rattle.asks.proofs.Walks.{walk_begins, walk_on, walk_ends, walk_over}
 use Rattle.asks.proofs.canonical.Goals as goal
 
-pub returns-then-link-at : goal.returns-then-link-at
-returns-then-link-at g c =
-    let told = c.symbol_of-link.ensures in
-    let inv = c.loop-i.invariant in
-    let at = c.loop-i.at in
-    record {
-      answer = walk_ends c.args.symbols c.args.s (g.T.LinkTable.means c.args.table.now).table c.loop-i.i at c.symbol_of-link.result.link c.requires inv.1
-          (ap (λ x. x.link) told.answer ∙ ap (λ v. (symbol_at (view v.table) at).link) inv.0) c.if-link-at.true;
-      kept = told.kept ∙ inv.0;
-    }
+pub loop-step-init : goal.loop-step-init
+loop-step-init g c = record { same = c.symbol_count-symbols.ensures.kept; left = walk_begins _ c.args.s }
 
-pub loop-i-preserved : goal.loop-i-preserved
-loop-i-preserved g c =
-    let told = c.symbol_of-link.ensures in
-    let inv = c.loop-i.invariant in
-    let at = c.loop-i.at in (
-      told.kept ∙ inv.0,
-      walk_on c.args.symbols c.args.s (g.T.LinkTable.means c.args.table.now).table c.loop-i.i at c.symbol_of-link.result.link c.loop-i-test.true inv.1
-          (ap (λ x. x.link) told.answer ∙ ap (λ v. (symbol_at (view v.table) at).link) inv.0),
-    )
+pub returns-then-link-at-clause-answer : goal.returns-then-link-at-clause-answer
+returns-then-link-at-clause-answer g c =
+    walk_ends (view (g.T.LinkTable.means c.args.table.now).table) c.args.s c.loop-step._step c.loop-step.at c.loop-step.invariant.left (cc)
 
-pub returns : goal.returns
-returns g c =
-    let inv = c.loop-i.invariant in
-    record {
-      answer = walk_over c.args.symbols c.args.s (g.T.LinkTable.means c.args.table.now).table c.loop-i.i c.loop-i.at c.requires c.loop-i-test.false inv.1;
-      kept = inv.0;
-    }
+pub loop-step-preserved : goal.loop-step-preserved
+unfolding view
+loop-step-preserved g c =
+    let v = view (g.T.LinkTable.means c.args.table.now).table in
+    record { same = cc; left = walk_on v c.args.s c.loop-step._step c.loop-step.at _ (omega arith) c.loop-step.invariant.left (cc) }
+
+pub returns-clause-answer : goal.returns-clause-answer
+unfolding view
+returns-clause-answer g c = walk_over _ c.args.s c.loop-step._step c.loop-step.at (omega arith) c.loop-step.invariant.left

@@ -1,33 +1,31 @@
-use Rattle.std.proofs.Common.{ℕ, ◌+◌, List, sym, refl, ap, ◌∙◌, subst}
-use Rattle.bits.specs.Rows.{Filled}
+use Rattle.std.proofs.Common.{◌<◌, length, refl, ap, ◌∙◌, arith}
 use Rattle.bits.proofs.Fills.{turn_asks, turn_some, turn_none}
 use Rattle.bits.proofs.determine_reachable_modules.Goals as goal
 use Rattle.bits.proofs.determine_reachable_modules.Goals.{in-Some, in_default}
 
-pub reach-requires : goal.reach-requires
-reach-requires g c =
-    let l = c.loop-e in
+pub reach_loads-requires : goal.reach_loads-requires
+reach_loads-requires g c =
     let asked = c.usable_root.ensures in
-    let d = turn_asks _ _ _ (ap (λ k. k.table) l.invariant.1) (ap (λ k. k.table) asked.kept) c.args.rows c.args.queue c.args.entries l.e c.args.words.now l.words
-    c.requires.area c.requires.entries c.loop-e-test.true l.auto.words l.invariant.0 c.usable_root.result asked.answer c.in-Some.m c.in-Some.is in
-    λ _. ((refl, tt), (d.0, d.1))
+    let count = c.entry_count-e-end.ensures.answer in
+    let d = turn_asks c.loop-e.invariant.done (omega arith) asked.answer (ap (λ k. k.table) asked.kept) c.in-Some.is in
+    λ _. ((refl, tt), rw c.column.ensures (d.0, d.1))
 
 pub loop-e-preserved : goal.loop-e-preserved
 loop-e-preserved g c =
-    let means = g.T.LinkTable.means in
-    let l = c.loop-e in
+    let l = c.loop-e.invariant in
     let asked = c.usable_root.ensures in
-    let F : List ℕ → Type 0 = Filled (means c.args.table.now).table c.args.rows c.args.queue (l.e + 1) c.args.words.now in
+    let count = c.entry_count-e-end.ensures.answer in
+    let there : c.loop-e.e < length (g.T.LinkTable.means c.args.table.now).table.entries = omega arith in
     elim c.match-usable_root.branch [
-      | in-Some x ↦ (
-        subst F (sym x.words-is) (turn_some _ _ _ (ap (λ k. k.table) l.invariant.1) (ap (λ k. k.table) asked.kept) c.args.rows c.args.queue c.args.entries l.e c.args.words.now l.words
-            c.requires.area c.requires.entries c.loop-e-test.true l.auto.words l.invariant.0 c.usable_root.result asked.answer x.in-Some.m x.in-Some.is
-            x.reach.new.words x.reach.ensures.reached x.reach.ensures.frame),
-        ap means x.table-is ∙ x.reach.ensures.kept ∙ asked.kept ∙ l.invariant.1,
-      )
-      | in_default x ↦ (
-        subst F (sym x.words-is) (turn_none _ _ _ (ap (λ k. k.table) l.invariant.1) (ap (λ k. k.table) asked.kept) c.args.rows c.args.queue c.args.entries l.e c.args.words.now l.words
-            c.requires.area c.requires.entries c.loop-e-test.true l.auto.words l.invariant.0 c.usable_root.result asked.answer x.in_default.not-Some),
-        ap means x.table-is ∙ asked.kept ∙ l.invariant.1,
-      )
+      | in-Some x ↦
+          let r = rw x.column.ensures at x.reach_loads.ensures in
+          rw (x.words-is, x.table-is) (record {
+            done = turn_some l.done there asked.answer (ap (λ k. k.table) asked.kept) x.in-Some.is (ap (λ k. k.table) r.kept) x.reach_loads.auto.words r.reached r.frame;
+            kept = r.kept ∙ asked.kept ∙ l.kept;
+          })
+      | in_default x ↦
+          rw (x.words-is, x.table-is) (record {
+            done = turn_none l.done there asked.answer (ap (λ k. k.table) asked.kept) x.in_default.not-Some;
+            kept = asked.kept ∙ l.kept;
+          })
     ]

@@ -1,28 +1,11 @@
-use Rattle.std.proofs.Common.{true, false, ap, ◌∙◌}
+use Rattle.std.proofs.Common.{ap, ◌∙◌}
 use Rattle.tables.specs.View.{view}
-use Rattle.definitions.specs.Bits.{usable}
-use Rattle.bits.proofs.Asks.{root_none, root_some}
+use Rattle.loads.specs.Loading.{if_usable}
+use Rattle.bits.proofs.Asks.{root_asked}
 use Rattle.bits.proofs.usable_root.Goals as goal
 
-pub returns-in_default : goal.returns-in_default
-returns-in_default g c = root_none (g.T.LinkTable.means c.args.table.now).table c.args.e c.requires c.in_default.ensures.answer
-
-pub returns-then-usable_module : goal.returns-then-usable_module
-returns-then-usable_module g c =
-    let told = c.in-Some.ensures in
-    let used = c.if-usable_module.ensures in
-    let info = c.in-Some.info in
-    record {
-      answer = root_some _ c.args.e c.requires info true told.answer (used.answer ∙ ap (λ k. usable (view k.table) info.root) told.kept);
-      kept = used.kept ∙ told.kept;
-    }
-
-pub returns-else-usable_module : goal.returns-else-usable_module
-returns-else-usable_module g c =
-    let told = c.in-Some.ensures in
-    let used = c.if-usable_module.ensures in
-    let info = c.in-Some.info in
-    record {
-      answer = root_some _ c.args.e c.requires info false told.answer (used.answer ∙ ap (λ k. usable (view k.table) info.root) told.kept);
-      kept = used.kept ∙ told.kept;
-    }
+pub returns-clause-answer : goal.returns-clause-answer
+returns-clause-answer g c =
+    let told = c.in_ok-info.ensures in
+    let info = c.in_ok-info.info in
+    c.if_usable.ensures.answer ∙ ap (λ k. if_usable (view k.table) info.root) told.kept ∙ root_asked _ c.args.e info c.requires told.answer

@@ -1,22 +1,23 @@
-use Rattle.std.proofs.Common.{length, ap, ◌∙◌, rules}
-use Rattle.checknumbers.proofs.Parts.{numbers_end}
-use Rattle.definitions.specs.Checks.{numbers_checked}
+use Rattle.std.proofs.Common.{Err, ap, ◌∙◌}
+use Rattle.std.proofs.lemmas.Result.{err_from_is_err_and}
+use Rattle.checknumbers.proofs.Parts.{entries_stop, numbers_end}
 use Rattle.checknumbers.proofs.check_numbers.Goals as goal
 
-pub returns-in_err-check_below_if : goal.returns-in_err-check_below_if
-unfolding numbers_checked
-returns-in_err-check_below_if g c = search rules
+pub returns-in_err-check_each-2-clause-answer : goal.returns-in_err-check_each-2-clause-answer
+returns-in_err-check_each-2-clause-answer g c =
+    let means = g.T.LinkTable.means in
+    let one = c.in_ok-check_below_if.ensures.answer in
+    let two = c.in_ok-check_each.ensures.answer in
+    let p = err_from_is_err_and c.from_residual-in_err-check_each-2.result c.from_residual-in_err-check_each-2.ensures.1 in
+    p.1 ∙ ap Err p.2
+    ∙ entries_stop (means c.args.table.now) (means c.runtime-runtime.new.self) (means c.check_below_if.new.table) (means c.check_each.new.table) _ _ _ c.runtime-runtime.result one two _
+    c.in_err-check_each-2.ensures.answer (cc) (cc) (cc) (cc) (cc) (cc) (cc)
 
-pub returns : goal.returns
-returns g c =
-    let modules = c.module_count-modules.ensures in
-    let symbols = c.symbol_count-symbols.ensures in
-    let runtime = c.runtime-runtime.ensures in
-    let told = c.in_ok-check_below_if.ensures in
-    let done = c.check_parts.ensures in
-    let e = runtime.kept ∙ symbols.kept ∙ modules.kept in
-    record {
-      answer = numbers_end (g.T.LinkTable.means c.args.table.now) _ _ _ _ _ _ e (told.kept ∙ e) modules.answer (symbols.answer ∙ ap (λ v. length v.table.symbols) modules.kept)
-          (runtime.answer ∙ ap (λ v. v.table.runtime) (symbols.kept ∙ modules.kept)) told.answer done.answer;
-      kept = done.kept ∙ told.kept ∙ e;
-    }
+pub returns-clause-answer : goal.returns-clause-answer
+returns-clause-answer g c =
+    let means = g.T.LinkTable.means in
+    let one = c.in_ok-check_below_if.ensures.answer in
+    let two = c.in_ok-check_each.ensures.answer in
+    let three = c.in_ok-check_each-2.ensures.answer in
+    numbers_end (means c.args.table.now) (means c.runtime-runtime.new.self) (means c.check_below_if.new.table) (means c.check_each.new.table) _ _ _ c.runtime-runtime.result one two
+    (means c.check_each-2.new.table) _ three c.check_each-3.ensures.answer (cc) (cc) (cc) (cc) (cc) (cc) (cc) (cc)

@@ -1,16 +1,11 @@
-use Rattle.std.proofs.Common.{sym, arith, below_more}
+use Rattle.std.proofs.Common.{◌≡◌, true, false, sym, rules, tests}
+use Rattle.std.proofs.lemmas.Iterator.{first_from_Range}
+use Rattle.classes.specs.Numbering.{same_as}
 use Rattle.classes.proofs.Steps.{same_is}
 use Rattle.classes.proofs.find_class.Goals as goal
 
-pub returns-then-same : goal.returns-then-same
-returns-then-same c = (
-  omega arith,
-  c.loop-a-test.true,
-  sym (same_is c.args.at.rows c.args.at.firsts c.args.words.now c.args.i c.loop-a.a _ c.if-same.ensures),
-  λ k _ l. c.loop-a.invariant k l,
-)
-
-pub loop-a-preserved : goal.loop-a-preserved
-loop-a-preserved c =
-    below_more _ _ c.loop-a.invariant
-    (sym (same_is c.args.at.rows c.args.at.firsts c.args.words.now c.args.i c.loop-a.a _ c.if-same.ensures))
+pub returns : goal.returns
+returns c =
+    first_from_Range _ _ _ _ (λ a. same_as c.args.at c.args.words.now c.args.i a ≡ true) (λ a. same_as c.args.at c.args.words.now c.args.i a ≡ false) c.find.ensures.ran
+    (λ a q k. sym (same_is c.args.at c.args.words.now c.args.i a true (search (rules, tests))))
+    (λ a q k. (search rules, sym (same_is c.args.at c.args.words.now c.args.i a false (search (rules, tests)))))

@@ -1,13 +1,6 @@
 use Rattle.rows.specs.Bits.{has}
-use Rattle.covering.proofs.Uncovered.{marks_uncovered, marks_none}
+use Rattle.covering.proofs.Uncovered.{marks_uncovered}
 use Rattle.covering.proofs.mark_uncovered.Goals as goal
 
-pub returns : goal.returns
-returns c =
-    let graph = c.args.graph in
-    let u = c.uncovered in
-    record {
-      covers = λ t a says. marks_uncovered t a _ _ _ _ _ says graph.few (has u.new.words c.args.marks) u.ensures.led;
-      none = marks_none _ _ _ _ _ (has u.new.words c.args.marks) u.ensures.led;
-      outside = u.ensures.outside;
-    }
+pub returns-clause-covers : goal.returns-clause-covers
+returns-clause-covers c = λ t a says. marks_uncovered t a c.args.graph _ _ says (has c.uncovered.new.words c.args.row.marks) c.uncovered.ensures.led

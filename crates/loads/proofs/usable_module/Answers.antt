@@ -1,13 +1,10 @@
-use Rattle.std.proofs.Common.{◌∙◌}
-use Rattle.loads.proofs.Asks.{usable_some, usable_none}
+use Rattle.std.proofs.Common.{◌≡◌, ◌&&◌, false, ◌∙◌, rules}
+use Rattle.std.specs.Option.{option_map_or}
+use Rattle.tables.specs.Flags.{flag}
+use Rattle.loads.proofs.Asks.{usable_asked}
 use Rattle.loads.proofs.usable_module.Goals as goal
 
-pub returns-in-Some : goal.returns-in-Some
-returns-in-Some g c =
-    let told = c.in-Some.ensures in
-    record { answer = c.is_usable.ensures ∙ usable_some _ c.args.m c.in-Some.info told.answer; kept = told.kept }
-
-pub returns-in-None : goal.returns-in-None
-returns-in-None g c =
-    let told = c.in-None.ensures in
-    record { answer = usable_none _ c.args.m told.answer; kept = told.kept }
+pub returns-clause-answer : goal.returns-clause-answer
+returns-clause-answer g c =
+    let is : c.is_some_and.result ≡ option_map_or (λ i. flag 1 i.flags && flag 2 i.flags) c.module.result false = search rules in
+    is ∙ usable_asked _ c.args.m c.module.result c.module.ensures.answer

@@ -1,8 +1,7 @@
 use Rattle.std.proofs.Common.{rules}
-use Rattle.rows.proofs.Words.{fit, decides_empty}
+use Rattle.std.proofs.iter.runs.Made.{chains}
+use Rattle.rows.proofs.Words.{empty_is}
 use Rattle.rows.proofs.is_empty.Goals as goal
 
 pub returns : goal.returns
-returns c =
-    let ws = c.args.words.now in
-    decides_empty ws c.args.at (fit ws c.args.at (search rules) (search rules) (search rules) (search rules))
+returns c = empty_is c.args.words.now c.args.at c.requires c.type_inv.words c.all.result (search (rules, chains))

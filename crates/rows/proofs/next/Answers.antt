@@ -4,10 +4,9 @@ use Rattle.rows.proofs.next.Goals as goal
 
 pub returns-then-rest-ne0 : goal.returns-then-rest-ne0
 returns-then-rest-ne0 c =
-    let i = c.loop-i.i in
-    finds c.args.words.now c.args.at i c.args.from c.loop-i-test.true (search rules) c.loop-i.invariant.0 c.loop-i.invariant.1 (omega arith)
+    finds c.args.words.now c.args.at c.loop-k.k c.max-start.result (search rules) c.args.from (search rules) (search rules) (search rules)
+    (λ j l h. c.loop-k.invariant j l (search rules)) (omega arith)
 
-pub loop-i-preserved : goal.loop-i-preserved
-loop-i-preserved c =
-    let i = c.loop-i.i in
-    (omega arith, skips c.args.words.now c.args.at i c.args.from c.loop-i.invariant.1 (search rules))
+pub loop-k-preserved : goal.loop-k-preserved
+loop-k-preserved c =
+    skips c.args.words.now c.args.at c.loop-k.k c.max-start.result (search rules) c.args.from (λ j l h. c.loop-k.invariant j l (search rules)) (search rules)

@@ -1,32 +1,16 @@
-use Rattle.std.proofs.Common.{ℕ, ◌+◌, ◌≤◌, List, get_or, sym, arith, w64, Fits, rules}
+use Rattle.std.proofs.Common.{◌≡◌, ◌+◌, ◌≤◌, ◌∙◌, rules}
 use lib.Count.{ones}
-use Rattle.std.proofs.lemmas.Nat.{ones-le}
-use Rattle.rows.proofs.Words.{fit, count_row}
+use Rattle.std.specs.List.{between, sum_by}
+use Rattle.std.proofs.iter.runs.Made.{chains}
+use Rattle.rows.proofs.Words.{few, count_row}
 use Rattle.rows.proofs.size.Goals as goal
 
--- each word has at most 64
-few : (ws : List ℕ) → ((i : ℕ) → Fits w64 (get_or ws i 0)) → (k : ℕ) → ones (get_or ws k 0) ≤ 64
-few ws typed k = ones-le 64 (get_or ws k 0) (typed k).fits
-
-pub overflow_add-result-2 : goal.overflow_add-result-2
-overflow_add-result-2 c =
-    let f = few c.args.words.now c.type_inv.words in
-    let at = c.args.at in
-    omega (arith, f at, f (at + 1))
-
-pub overflow_add-result-4 : goal.overflow_add-result-4
-overflow_add-result-4 c =
-    let f = few c.args.words.now c.type_inv.words in
-    let at = c.args.at in
-    omega (arith, f at, f (at + 1), f (at + 2))
-
-pub overflow_add-result-6 : goal.overflow_add-result-6
-overflow_add-result-6 c =
-    let f = few c.args.words.now c.type_inv.words in
-    let at = c.args.at in
-    omega (arith, f at, f (at + 1), f (at + 2), f (at + 3))
+pub sum-requires-clause-fits : goal.sum-requires-clause-fits
+sum-requires-clause-fits c =
+    let most : sum_by ones (between c.args.at (c.args.at + 4) c.args.words.now) ≤ 256 = few c.args.words.now c.args.at c.requires c.type_inv.words in
+    search (rules, chains)
 
 pub returns : goal.returns
 returns c =
-    let ws = c.args.words.now in
-    sym (count_row ws c.args.at (fit ws c.args.at (search rules) (search rules) (search rules) (search rules)))
+    let is : c.sum.result ≡ sum_by ones (between c.args.at (c.args.at + 4) c.args.words.now) = search (rules, chains) in
+    is ∙ count_row c.args.words.now c.args.at c.requires c.type_inv.words

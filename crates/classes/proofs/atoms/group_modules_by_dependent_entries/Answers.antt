@@ -1,27 +1,15 @@
-use Rattle.std.proofs.Common.{◌≡◌, length, sym, subst, arith}
-use Rattle.classes.specs.Atoms.{AtomRoom}
-use Rattle.classes.proofs.Joins.{copy_room, around, grouped, too_many, around_none}
+use Rattle.std.proofs.Common.{arith}
+use Rattle.std.proofs.lemmas.Result.{err_from_is_err_and}
+use Rattle.classes.proofs.Joins.{copy_room, grouped, too_many}
 use Rattle.classes.proofs.atoms.group_modules_by_dependent_entries.Goals as goal
 
 pub copy_first_rows-requires : goal.copy_first_rows-requires
-copy_first_rows-requires c =
-    let at = c.args.at in
-    let long : length c.number_rows.new.words ≡ length c.args.words.now = omega arith in
-    let room = subst (AtomRoom at.rows at.modules at.numbers at.firsts at.atoms) (sym long) c.requires in
-    copy_room c.args.words.now room c.in-Ok.ensures.numbered
+copy_first_rows-requires c = copy_room c.args.words.now c.requires (omega arith) c.in_ok-count.ensures.numbered
 
-pub returns-in-Ok : goal.returns-in-Ok
-returns-in-Ok c =
-    let at = c.args.at in
-    let long : length c.number_rows.new.words ≡ length c.args.words.now = omega arith in
-    let room = subst (AtomRoom at.rows at.modules at.numbers at.firsts at.atoms) (sym long) c.requires in
-    let told = c.in-Ok.ensures in
-    record {
-      grouped = λ t says. grouped c.args.words.now room told.numbered c.copy_first_rows.ensures says;
-      around = around c.args.words.now room told.numbered c.copy_first_rows.ensures told.outside;
-    }
+pub returns-clause-grouped : goal.returns-clause-grouped
+returns-clause-grouped c t says = grouped c.args.words.now c.requires (omega arith) c.in_ok-count.ensures.numbered c.copy_first_rows.ensures says
 
-pub returns-in-Err : goal.returns-in-Err
-returns-in-Err c =
-    let told = c.in-Err.ensures in
-    record { grouped = λ t says. too_many says _ told.numbered; around = around_none c.requires told.outside }
+pub returns-in_err-count-clause-grouped : goal.returns-in_err-count-clause-grouped
+returns-in_err-count-clause-grouped c t says =
+    let p = err_from_is_err_and c.from_residual.result c.from_residual.ensures.1 in
+    rw (p.1, p.2) (too_many says _ c.in_err-count.ensures.numbered)

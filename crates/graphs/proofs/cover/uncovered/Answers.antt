@@ -1,42 +1,36 @@
-use Rattle.std.proofs.Common.{refl, arith}
-use Rattle.graphs.proofs.Covering.{cover_begins, cover_asks, cover_ready, cover_again, cover_less, cover_led, cover_outside}
+use Rattle.std.proofs.Common.{ℕ, refl, ap}
+use Rattle.graphs.specs.declared.adjacency.RowsAt.{RowsAt}
+use Rattle.graphs.proofs.Covering.{cover_begins, cover_asks, cover_ready, cover_again, cover_led}
 use Rattle.graphs.proofs.cover.uncovered.Goals as goal
 
-pub erase-requires : goal.erase-requires
-erase-requires c = let a = c.requires.marks_before in let b = c.requires.queue_within in omega arith
+pub members-i-items-requires : goal.members-i-items-requires
+members-i-items-requires c = record {
+  row = rw c.erase.auto.words (cover_asks _ _ _ _ c.requires);
+  end_in = c.args.graph.of.few;
+}
 
 pub loop-i-init : goal.loop-i-init
-loop-i-init c = cover_begins _ _ _ _ _ _ c.args.graph.few _ _ c.requires c.erase.ensures c.erase.auto.words
-
-pub next_below-requires : goal.next_below-requires
-next_below-requires c =
-    let l = c.loop-i in
-    cover_asks _ _ _ _ _ _ c.args.graph.few _ _ c.requires c.erase.ensures c.erase.auto.words _ _ l.auto.words l.invariant
+loop-i-init c = record {
+  done =
+      rw c.into_iter-i-iterator.ensures.into_iter_gives
+      (cover_begins _ _ _ _ c.requires _ c.erase.ensures c.erase.auto.words c.members-i-items.ensures);
+  kept = refl;
+}
 
 pub reach-requires : goal.reach-requires
 reach-requires c =
-    let l = c.loop-i in
-    let d = cover_ready _ _ _ _ _ _ c.args.graph.few _ _ c.requires c.erase.ensures c.erase.auto.words _ _ l.auto.words l.invariant
-    c.in-Some.i c.in-Some.ensures in
-    λ _. ((refl, tt), (d.0, d.1))
-
-pub loop-i-smaller : goal.loop-i-smaller
-loop-i-smaller c =
-    let l = c.loop-i in
-    cover_less _ _ _ _ _ _ c.args.graph.few _ _ c.requires c.erase.ensures c.erase.auto.words _ _ l.auto.words l.invariant
-    c.in-Some.i c.in-Some.ensures
+    let l = c.loop-i.invariant in
+    let d = cover_ready l.done c.in-Some.ensures.steps in
+    rw (c.from-places.ensures, l.kept) (record { ready = d.0; closed = d.1 })
 
 pub loop-i-preserved : goal.loop-i-preserved
 loop-i-preserved c =
-    let l = c.loop-i in
-    let r = c.reach.ensures in
-    cover_again _ _ _ _ _ _ c.args.graph.few _ _ c.requires c.erase.ensures c.erase.auto.words _ _ l.auto.words l.invariant
-    c.in-Some.i c.in-Some.ensures _ r.reached r.frame
-
-pub returns : goal.returns
-returns c =
-    let l = c.loop-i in
+    let l = c.loop-i.invariant in
+    let r = rw (c.from-places.ensures, l.kept) at c.reach.ensures in
     record {
-      led = cover_led _ _ _ _ _ _ c.args.graph.few _ _ c.requires c.erase.ensures c.erase.auto.words _ _ l.auto.words l.invariant c.in_default.ensures;
-      outside = cover_outside _ _ _ _ _ _ c.args.graph.few _ _ c.requires c.erase.ensures c.erase.auto.words _ _ l.auto.words l.invariant c.in_default.ensures;
+      done = cover_again l.done c.in-Some.ensures.steps c.reach.auto.words r.reached r.frame;
+      kept = ap (λ (m : ℕ × RowsAt). record { of = m.1; barred = m.0 }) r.kept;
     }
+
+pub returns-clause-led : goal.returns-clause-led
+returns-clause-led c = cover_led c.loop-i.invariant.done c.in-None.ensures.steps

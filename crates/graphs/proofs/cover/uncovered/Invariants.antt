@@ -1,10 +1,9 @@
-use Rattle.std.proofs.Common.{◌-◌}
-use Rattle.graphs.specs.Cover.{StartsDone}
+use Rattle.std.proofs.Common.{◌≡◌}
+use Rattle.graphs.proofs.Covering.{StartsDone}
 use Rattle.graphs.proofs.cover.uncovered.Given as goal
 
 abbrev pub invariant-loop-i : goal.invariant-loop-i
-invariant-loop-i l =
-    StartsDone l.graph.at l.graph.nodes l.graph.barred l.starts l.marks l.queue l.initial.words l.from l.words
-
-abbrev pub decreases-loop-i : goal.decreases-loop-i
-decreases-loop-i l = l.graph.nodes - l.from
+invariant-loop-i l = record {
+  done : StartsDone l.fn.graph l.starts l.fn.row l.fn.words l.words l.i-iterator;
+  kept : l.graph ≡ l.fn.graph;
+}

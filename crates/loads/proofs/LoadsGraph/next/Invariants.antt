@@ -5,4 +5,8 @@ use Rattle.loads.proofs.LoadsGraph.next.Given as goal
 abbrev pub invariant-loop-i : goal.invariant-loop-i
 invariant-loop-i g l =
     let means = g.T.LinkTable.means in
-    Empty (means l.initial.source).table l.v l.from l.i × (means l.source ≡ means l.initial.source)
+    record {
+      empty : Empty (means l.fn.self.table.now).table l.v l.from l.i;
+      kept : means l.self.table.now ≡ means l.fn.self.table.now;
+      same_table : l.self.table.ghost_name ≡ l.fn.self.table.ghost_name;
+    }

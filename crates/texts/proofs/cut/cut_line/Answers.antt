@@ -1,11 +1,9 @@
-use Rattle.std.proofs.Common.{◌<◌, length, arith}
+use Rattle.std.proofs.Common.{sym, ◌∙◌}
 use Rattle.texts.proofs.Cuts.{cut_none, cut_at}
 use Rattle.texts.proofs.cut.cut_line.Goals as goal
 
-pub returns-then-n-text : goal.returns-then-n-text
-returns-then-n-text c = cut_none c.args.text.now (λ k lt e. c.line_length-n.ensures.before k (omega arith) e)
+pub returns-in-Some : goal.returns-in-Some
+returns-in-Some c = cut_at c.args.text.now c.in-Some.n (sym c.line_end.ensures ∙ c.in-Some.is)
 
-pub returns : goal.returns
-returns c =
-    let lt : c.line_length-n.result < length c.args.text.now = omega arith in
-    cut_at c.args.text.now c.line_length-n.result _ lt c.line_length-n.ensures.before (c.line_length-n.ensures.found lt) (omega arith)
+pub returns-in-None : goal.returns-in-None
+returns-in-None c = cut_none c.args.text.now (sym c.line_end.ensures ∙ c.in-None.is)
