@@ -4,14 +4,27 @@
 use console::{Answer, LONGEST, respond};
 use std::alloc::Global;
 use std::fs::File;
-use std::io::{Read, Write};
+use std::io::{ErrorKind, Read, Write};
 use std::process::ExitCode;
 use std::{env, io};
 
-// Reads one byte more than the longest text has, so that a longer one is known.
-fn read_text<R: Read + Drop>(alloc: Global, input: R) -> io::Result<Vec<u8>> {
-    let mut text = Vec::new(alloc);
-    input.take(LONGEST as u64 + 1).read_to_end(&mut text)?;
+// Reads one byte more than the longest text has, so that a longer one is known. Each read asks for all that is still wanted:
+// where an input keeps messages apart, as a socket may, what a read does not take is lost.
+fn read_text<R: Read + Drop>(alloc: Global, mut input: R) -> io::Result<Vec<u8>> {
+    let mut text = vec![in alloc; 0u8; LONGEST + 1]?;
+    let mut n = 0;
+    for _ in 0..u64::MAX {
+        if n >= text.len() {
+            break;
+        }
+        match input.read(&mut text.as_mut_slice()[n..]) {
+            Ok(0) => break,
+            Ok(more) => n += more,
+            Err(e) if e.kind() == ErrorKind::Interrupted => {}
+            Err(e) => return Err(e),
+        }
+    }
+    text.truncate(n);
     Ok(text)
 }
 

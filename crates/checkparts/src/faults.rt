@@ -7,7 +7,9 @@ use tables::fault::{Cause, Fault};
 use tables::table::LinkTable;
 use tables::thing::{Field, Thing};
 
-// The fault of a thing's field, with its place in the table.
+// The fault of a thing's field, with its place in the table. A check that passes makes none.
+#[cold]
+#[inline(never)]
 pub fn fault_at<'t, T: LinkTable<'t>>(
     table: &mut T,
     cause: Cause,
@@ -26,7 +28,8 @@ pub fn fault_at<'t, T: LinkTable<'t>>(
     }
 }
 
-// Refuses what does not hold, with this cause.
+// Refuses what does not hold, with this cause. Cause and thing are made where it is known to be refused, since it is inlined.
+#[inline(always)]
 pub fn check_that<'t, T: LinkTable<'t>>(
     table: &mut T,
     holds: bool,
@@ -44,6 +47,7 @@ pub fn check_that<'t, T: LinkTable<'t>>(
 }
 
 // Refuses a count `n` of more than `most`: the fault names `thing`, the first too many.
+#[inline(always)]
 pub fn check_few<'t, T: LinkTable<'t>>(
     table: &mut T,
     most: usize,
@@ -58,6 +62,7 @@ pub fn check_few<'t, T: LinkTable<'t>>(
 }
 
 // Refuses a number that names none of `n` things.
+#[inline(always)]
 pub fn check_below<'t, T: LinkTable<'t>>(
     table: &mut T,
     n: usize,
@@ -72,6 +77,7 @@ pub fn check_below<'t, T: LinkTable<'t>>(
 }
 
 // Refuses a number over `n`, as a sum of flags may be.
+#[inline(always)]
 pub fn check_at_most<'t, T: LinkTable<'t>>(
     table: &mut T,
     n: u32,
@@ -86,6 +92,7 @@ pub fn check_at_most<'t, T: LinkTable<'t>>(
 }
 
 // Refuses a number that is there and names none of `n` things.
+#[inline(always)]
 pub fn check_below_if<'t, T: LinkTable<'t>>(
     table: &mut T,
     n: usize,

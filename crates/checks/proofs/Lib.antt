@@ -1,3 +1,4 @@
+mod Chained
 mod Counting
 mod Scans
 pub mod Within

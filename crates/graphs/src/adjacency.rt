@@ -2,7 +2,7 @@
 // where an edge leads from v to w.
 ghost use Rattle.std.specs.Prelude.{◌≤◌};
 
-use reach::{Graph, Slot};
+use reach::{CountedGraph, Graph, Slot};
 use rows::{next_below, test};
 
 // The graph whose rows begin at the word `at`.
@@ -34,13 +34,15 @@ impl Graph for RowsAt {
     ghost same_shape = { λ g h e. ap (λ r. row_shape r.at r.nodes) e };
 
     #[tactic(auto, unfolding(crate::specs::Tests::test_shape))]
-    fn nodes(&mut self) -> usize {
-        self.nodes
-    }
-
-    #[tactic(auto, unfolding(crate::specs::Tests::test_shape))]
     fn next(&mut self, words: &[u64], v: usize, from: usize) -> Option<Slot> {
         next_below(words, self.at + 4 * v, from, self.nodes).map(|w| Slot { index: w, node: w })
+    }
+}
+
+impl CountedGraph for RowsAt {
+    #[tactic(auto, unfolding(crate::specs::Tests::test_shape))]
+    fn nodes(&mut self) -> usize {
+        self.nodes
     }
 }
 
@@ -57,15 +59,17 @@ impl<G: Graph> Graph for Unless<G> {
     ghost same_shape = { λ g h e. unless_same e (G.same_shape g.of h.of) };
 
     #[tactic(auto, unfolding(crate::specs::Tests::unless_shape))]
-    fn nodes(&mut self) -> usize {
-        self.of.nodes()
-    }
-
-    #[tactic(auto, unfolding(crate::specs::Tests::unless_shape))]
     fn next(&mut self, words: &[u64], v: usize, from: usize) -> Option<Slot> {
         if test(words, self.barred, v) {
             return None;
         }
         self.of.next(words, v, from)
+    }
+}
+
+impl<G: CountedGraph> CountedGraph for Unless<G> {
+    #[tactic(auto, unfolding(crate::specs::Tests::unless_shape))]
+    fn nodes(&mut self) -> usize {
+        self.of.nodes()
     }
 }

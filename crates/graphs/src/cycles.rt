@@ -4,7 +4,7 @@ ghost use Rattle.reach.specs.Shape.{Edge};
 ghost use Rattle.reach.specs.Memory.{marked, Room, Ready};
 ghost use Rattle.graphs.specs.Spreads.{Back, Cycle, Scratch};
 
-use reach::{Graph, Places, reach};
+use reach::{CountedGraph, Graph, Places, reach};
 
 // Takes every mark away, with all the words that marks stand in.
 fn erase_marks(words: &mut [u64], places: Places)
@@ -35,7 +35,7 @@ pub fn on_cycle<G: Graph>(graph: &mut G, words: &mut [u64], places: Places, v: u
 }
 
 // Whether the graph has a cycle. What the marks and the queue hold is lost.
-pub fn has_cycle<G: Graph>(graph: &mut G, words: &mut [u64], places: Places) -> bool
+pub fn has_cycle<G: CountedGraph>(graph: &mut G, words: &mut [u64], places: Places) -> bool
     requires limit { (G.shape graph.old).limit ≤ places.marks }
     requires room { Room places (G.shape graph.old).nodes (length words.old) }
     ensures answer { IsTrue result ↔ Cycle (Edge (G.shape graph.old) words.old) }

@@ -10,7 +10,7 @@ ghost use Rattle.reach.specs.Memory.{Frame, Ready};
 ghost use Rattle.reach.specs.Steps.{MarksClosed, MarksReached};
 ghost use Rattle.loads.specs.Loading.{if_usable, load_count, load_slot, load_shape};
 
-use reach::{Graph, Places, Slot, reach};
+use reach::{CountedGraph, Graph, Places, Slot, reach};
 use std::marker::PhantomData;
 use tables::parts::{INCLUDED, NORMAL};
 use tables::table::LinkTable;
@@ -56,14 +56,16 @@ fn usable_load<'t, T: LinkTable<'t>>(table: &mut T, m: usize, i: usize) -> Optio
     if_usable(table, load as usize)
 }
 
-// The graph whose nodes are the table's modules, and whose edges lead from a module to each usable one that it loads.
-pub struct Loads<'a, 't, T> {
-    pub table: &'a mut T,
+// The graph whose nodes are the table's modules, and whose edges lead from a module to each usable one that it loads. It is
+// walked over a table that is lent; what it holds decides whether it may be copied.
+#[derive(Clone, Copy)]
+pub struct Loads<'t, T> {
+    pub table: T,
     // names the lifetime of the table's storage
     pub storage: PhantomData<&'t [u8]>,
 }
 
-impl<'a, 't, T: LinkTable<'t>> Graph for Loads<'a, 't, T> {
+impl<'a, 't, T: LinkTable<'t>> Graph for Loads<'t, &'a mut T> {
     ghost use Rattle.std.specs.Prelude.{ℕ};
     ghost use Rattle.std.proofs.Common.{ap};
     ghost use Rattle.tables.specs.Value.{Meaning};
@@ -77,11 +79,6 @@ impl<'a, 't, T: LinkTable<'t>> Graph for Loads<'a, 't, T> {
 
     ghost same_shape = { λ g h e. ap (λ (m : ℕ × Meaning T.Place). load_shape m.1.table) e };
 
-    #[tactic(auto, unfolding(crate::specs::Loading::load_shape))]
-    fn nodes(&mut self) -> usize {
-        self.table.module_count()
-    }
-
     fn next(&mut self, words: &[u64], v: usize, from: usize) -> Option<Slot> {
         let count = count_loads(self.table, v);
         // a `for`: in `find_map` the closure would hold the table, and what it leaves of it is not known
@@ -91,6 +88,13 @@ impl<'a, 't, T: LinkTable<'t>> Graph for Loads<'a, 't, T> {
             }
         }
         None
+    }
+}
+
+impl<'a, 't, T: LinkTable<'t>> CountedGraph for Loads<'t, &'a mut T> {
+    #[tactic(auto, unfolding(crate::specs::Loading::load_shape))]
+    fn nodes(&mut self) -> usize {
+        self.table.module_count()
     }
 }
 

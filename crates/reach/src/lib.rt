@@ -77,11 +77,6 @@ pub trait Graph {
 
     ghost shape: { Self → Shape };
 
-    // How many nodes there are.
-    fn nodes(&mut self) -> usize
-        ensures answer { result ≡ (shape self.old).nodes }
-        ensures kept { means self.new ≡ means self.old };
-
     // The first filled slot of the node `v` from the slot `from` on.
     fn next(&mut self, words: &[u64], v: usize, from: usize) -> Option<Slot>
         requires limit { (shape self.old).limit ≤ length words.now }
@@ -90,6 +85,14 @@ pub trait Graph {
         ensures kept { means self.new ≡ means self.old };
 
     ghost same_shape: { (g h : Self) → means g ≡ means h → shape g ≡ shape h };
+}
+
+// A graph that can be asked how many nodes it has, as a search over all of them asks. A walk does without.
+pub trait CountedGraph: Graph {
+    // How many nodes there are.
+    fn nodes(&mut self) -> usize
+        ensures answer { result ≡ (Self.shape self.old).nodes }
+        ensures kept { Self.means self.new ≡ Self.means self.old };
 }
 
 // Marks `w` and puts it at the end of the queue, unless it is marked.

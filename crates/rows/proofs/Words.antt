@@ -1,9 +1,11 @@
 -- Rows by their words: what the functions that read a row find, and those that write one leave.
-use Rattle.std.proofs.Common.{◌≡◌, ℕ, zero, suc, ◌+◌, ◌-◌, ◌*◌, ◌/◌, ◌%◌, ◌^◌, ◌<◌, ◌≤◌, Bool, true, false, eqb, ◌⊎◌, ◌↔◌, List, length, get_or, take, Some, sym, refl, ap, ◌∙◌, ap₂, inl, inr, ⊎_elim, add-one, arith, w64, Fits, IsTrue}
+use Rattle.std.proofs.Common.{◌≡◌, ℕ, zero, suc, ◌+◌, ◌-◌, ◌*◌, ◌/◌, ◌%◌, ◌^◌, ◌<◌, ◌≤◌, Bool, true, false, eqb, ◌&&◌, ◌⊎◌, ◌↔◌, List, [], ◌∷◌, length, get_or, take, Some, sym, refl, ap, ◌∙◌, ap₂, inl, inr, ⊎_elim, add-one, arith, w64, Fits, IsTrue}
 use lib.Count.{ones}
-use Rattle.std.specs.List.{between, list_all, sum_by, All}
+use Rattle.std.specs.List.{between, list_all, sum_by, fold, zip, All}
 use Rattle.std.specs.Int.{trailing_zeros}
 use Rattle.std.specs.Str.{bytes_eq}
+use Rattle.std.proofs.Math.Bool.{and_assoc}
+use Rattle.std.proofs.Math.Nat.{div-one}
 use Rattle.std.proofs.lemmas.Bool.{cases_lt, both_ways}
 use Rattle.std.proofs.lemmas.Bool.Decides.{Decides-by_and, Decides-eqb}
 use Rattle.std.proofs.lemmas.Grind.{same_number_lists}
@@ -51,6 +53,18 @@ combined_is {to = to} {from = from} {ws = ws} {vs = vs} op fits s says = same_nu
         ⊎_elim (λ (x : k < to). outside k (inl x))
         (λ (x : to ≤ k). ⊎_elim (λ (y : k < to + 4). here k (k - to) (omega arith) (omega arith)) (λ (y : to + 4 ≤ k). outside k (inr y)) (cases_lt k (to + 4)))
         (cases_lt k to)
+
+-- ---- a test of each item, by a `fold`
+
+all_by_fold : {A : Type 0} (p : A → Bool) (b : Bool) (xs : List A) → fold (λ all x. all && p x) b xs ≡ (b && list_all p xs)
+all_by_fold p b [] = grind arith
+all_by_fold p b (x ∷ xs) = all_by_fold p (b && p x) xs ∙ and_assoc b (p x) (list_all p xs)
+
+pairs_eq : (xs ys : List ℕ) → length xs ≡ length ys → list_all (λ p. eqb p.0 p.1) (zip xs ys) ≡ bytes_eq xs ys
+pairs_eq [] [] h = refl
+pairs_eq [] (y ∷ ys) h = absurd (omega arith)
+pairs_eq (x ∷ xs) [] h = absurd (omega arith)
+pairs_eq (x ∷ xs) (y ∷ ys) h = ap (λ b. eqb x y && b) (pairs_eq xs ys (omega arith))
 
 -- ---- a row as the list of its words
 
@@ -102,12 +116,15 @@ module _ (ws : List ℕ) (at : ℕ) (fits : at + 4 ≤ length ws) where
 
     -- ---- whether it has none
 
-    pub empty_is : (r : Bool) → r ≡ list_all (λ w. eqb w 0) row → IsTrue r ↔ ((i : ℕ) → i < 256 → has ws at i ≡ false)
+    pub empty_is : (r : Bool) → r ≡ fold (λ all w. all && eqb w 0) true row → IsTrue r ↔ ((i : ℕ) → i < 256 → has ws at i ≡ false)
     empty_is r is = (
-      λ t i l. let long = row_length in row_has i l ∙ ap (λ (x : ℕ). bit x (i % 64)) (All-get_or zero_word row (i / 64) 0 (omega arith) (decides.0 (sym is ∙ t))) ∙ zero_bit (i % 64),
-      λ h. let long = row_length in is ∙ decides.1 (All-from_get_or zero_word row 0 (λ q l. same_bits (get_or row q 0) 0 (word_small q (omega arith)) (omega arith) (λ k m. none h q k (omega arith) m))),
+      λ t i l. let long = row_length in row_has i l ∙ ap (λ (x : ℕ). bit x (i % 64)) (All-get_or zero_word row (i / 64) 0 (omega arith) (decides.0 (sym all ∙ t))) ∙ zero_bit (i % 64),
+      λ h. let long = row_length in all ∙ decides.1 (All-from_get_or zero_word row 0 (λ q l. same_bits (get_or row q 0) 0 (word_small q (omega arith)) (omega arith) (λ k m. none h q k (omega arith) m))),
     )
       where
+        all : r ≡ list_all (λ w. eqb w 0) row
+        all = is ∙ all_by_fold (λ w. eqb w 0) true row
+
         decides : (list_all (λ w. eqb w 0) row ≡ true → All zero_word row) × (All zero_word row → list_all (λ w. eqb w 0) row ≡ true)
         decides = Decides-by_and (λ w. eqb w 0) zero_word (list_all (λ w. eqb w 0)) (λ w. Decides-eqb w 0) refl (λ _ _. refl) row
 
@@ -117,12 +134,18 @@ module _ (ws : List ℕ) (at : ℕ) (fits : at + 4 ≤ length ws) where
 -- ---- whether two rows are the same
 
 pub same_is : (ws : List ℕ) (a b : ℕ) (fa : a + 4 ≤ length ws) (fb : b + 4 ≤ length ws) → Typed ws → (r : Bool)
-    → r ≡ bytes_eq (between a (a + 4) ws) (between b (b + 4) ws) → IsTrue r ↔ ((i : ℕ) → i < 256 → has ws a i ≡ has ws b i)
+    → r ≡ fold (λ all p. all && eqb p.0 p.1) true (zip (between a (a + 4) ws) (between b (b + 4) ws)) → IsTrue r ↔ ((i : ℕ) → i < 256 → has ws a i ≡ has ws b i)
 same_is ws a b fa fb typed r is = (
-  λ t i l. row_has ws a fa i l ∙ ap (λ (xs : List ℕ). bit (get_or xs (i / 64) 0) (i % 64)) (decides.0 (sym is ∙ t)) ∙ sym (row_has ws b fb i l),
-  λ h. is ∙ decides.1 (same_number_lists _ _ (row_length ws a fa ∙ sym (row_length ws b fb)) (λ q l. let long = row_length ws a fa in word h q (omega arith))),
+  λ t i l. row_has ws a fa i l ∙ ap (λ (xs : List ℕ). bit (get_or xs (i / 64) 0) (i % 64)) (decides.0 (sym all ∙ t)) ∙ sym (row_has ws b fb i l),
+  λ h. all ∙ decides.1 (same_number_lists _ _ long (λ q l. let long = row_length ws a fa in word h q (omega arith))),
 )
   where
+    long : length (row ws a fa) ≡ length (row ws b fb)
+    long = row_length ws a fa ∙ sym (row_length ws b fb)
+
+    all : r ≡ bytes_eq (row ws a fa) (row ws b fb)
+    all = is ∙ all_by_fold (λ p. eqb p.0 p.1) true (zip (row ws a fa) (row ws b fb)) ∙ pairs_eq _ _ long
+
     decides : (bytes_eq (row ws a fa) (row ws b fb) ≡ true → row ws a fa ≡ row ws b fb) × (row ws a fa ≡ row ws b fb → bytes_eq (row ws a fa) (row ws b fb) ≡ true)
     decides = bytes_eq-Decides (row ws a fa) (row ws b fb)
 
@@ -132,16 +155,17 @@ same_is ws a b fa fb typed r is = (
 
 -- ---- the next number of a row: `rest` is the row's word k from the bit of i on, where i is a number of that word
 
-module _ (ws : List ℕ) (at k i : ℕ) (here : i / 64 ≡ k) where
-  abbrev rest : ℕ
-  rest = get_or ws (at + k) 0 / 2 ^ (i % 64)
+-- a word from its first bit on
+pub whole : (w k : ℕ) → w ≡ w / 2 ^ (64 * k % 64)
+whole w k = let first : 64 * k % 64 ≡ 0 = omega arith in sym (ap (λ (x : ℕ). w / 2 ^ x) first ∙ div-one w)
 
+module _ (ws : List ℕ) (at k i rest : ℕ) (here : i / 64 ≡ k) (is : rest ≡ get_or ws (at + k) 0 / 2 ^ (i % 64)) where
   has_from : (j : ℕ) → i ≤ j → i % 64 + (j - i) < 64 → has ws at j ≡ bit rest (j - i)
   unfolding has
   has_from j l h =
       let high : j / 64 ≡ k = omega arith in
       let low : j % 64 ≡ i % 64 + (j - i) = omega arith in
-      ap₂ (λ (x y : ℕ). bit (get_or ws (at + x) 0) y) high low ∙ sym (bit_shr (get_or ws (at + k) 0) (i % 64) (j - i))
+      ap₂ (λ (x y : ℕ). bit (get_or ws (at + x) 0) y) high low ∙ sym (bit_shr (get_or ws (at + k) 0) (i % 64) (j - i)) ∙ ap (λ (x : ℕ). bit x (j - i)) (sym is)
 
   pub skips : (from : ℕ) → ((j : ℕ) → from ≤ j → j < i → has ws at j ≡ false) → rest ≡ 0
       → (j : ℕ) → from ≤ j → j < 64 * (k + 1) → has ws at j ≡ false
@@ -154,16 +178,17 @@ module _ (ws : List ℕ) (at k i : ℕ) (here : i / 64 ≡ k) where
   within : (t : ℕ) → get_or ws (at + k) 0 < 2 ^ 64 → bit rest t ≡ true → i % 64 + t < 64
   within t fits b =
       ⊎_elim (λ (l : i % 64 + t < 64). l)
-      (λ (l : 64 ≤ i % 64 + t). absurd (both_ways (bit rest t) (bit_shr (get_or ws (at + k) 0) (i % 64) t ∙ bit_high _ _ fits l) b))
+      (λ (l : 64 ≤ i % 64 + t). absurd (both_ways (bit rest t) (ap (λ (x : ℕ). bit x t) is ∙ bit_shr (get_or ws (at + k) 0) (i % 64) t ∙ bit_high _ _ fits l) b))
       (cases_lt (i % 64 + t) 64)
 
   pub finds : (from : ℕ) → k < 4 → get_or ws (at + k) 0 < 2 ^ 64 → from ≤ i → ((j : ℕ) → from ≤ j → j < i → has ws at j ≡ false) → 0 < rest
-      → Next (has ws at) from 256 (Some (i + trailing_zeros w64 rest))
-  finds from small fits le before some =
+      → (r : ℕ) → r ≡ i + trailing_zeros w64 rest → Next (has ws at) from 256 (Some r)
+  finds from small fits le before some r told =
       let t = trailing_zeros w64 rest in
       let low : Lowest rest t = lowest rest some (omega (arith, shr_le (get_or ws (at + k) 0) (i % 64))) in
       let inside : i % 64 + t < 64 = within t fits low.0 in
-      let same : (i + t) - i ≡ t = omega arith in (
+      let same : (i + t) - i ≡ t = omega arith in
+      rw told (
         omega arith,
         omega arith,
         has_from (i + t) (omega arith) (omega arith) ∙ ap (bit rest) same ∙ low.0,

@@ -120,17 +120,20 @@ pub fn is_empty(words: &[u64], at: usize) -> bool
     requires { at + 4 ≤ length words.now }
     ensures { IsTrue result ↔ ((i : ℕ) → i < 256 → has words.now at i ≡ false) }
 {
-    words[at..at + 4].iter().all(|word| *word == 0)
+    // every word is looked at: a branch at each would cost more than it saves
+    let row = &words[at..at + 4];
+    row.iter().fold(true, |all, word| all & (*word == 0))
 }
 
 // Whether two rows have the same numbers.
-#[tactic(auto, using(crate::proofs::Words::same_is))]
 pub fn same(words: &[u64], a: usize, b: usize) -> bool
     requires a_row { a + 4 ≤ length words.now }
     requires b_row { b + 4 ≤ length words.now }
     ensures { IsTrue result ↔ ((i : ℕ) → i < 256 → has words.now a i ≡ has words.now b i) }
 {
-    words[a..a + 4] == words[b..b + 4]
+    // every pair is looked at, as in `is_empty`
+    let pairs = words[a..a + 4].iter().zip(&words[b..b + 4]);
+    pairs.fold(true, |all, (x, y)| all & (x == y))
 }
 
 // How many numbers the row has.
@@ -146,12 +149,20 @@ pub fn next(words: &[u64], at: usize, from: usize) -> Option<usize>
     requires { at + 4 ≤ length words.now }
     ensures { Next (has words.now at) from 256 result }
 {
+    let first = from / 64;
+    if first >= 4 {
+        return None;
+    }
+    // the first word apart: it alone is shifted
+    let rest = words[at + first] >> (from % 64);
+    if rest != 0 {
+        return Some(from + rest.trailing_zeros() as usize);
+    }
     // a `for`: the closure of a `find_map` would have the same three lines
-    for k in from / 64..4 {
-        let start = from.max(64 * k);
-        let rest = words[at + k] >> (start % 64);
-        if rest != 0 {
-            return Some(start + rest.trailing_zeros() as usize);
+    for k in first + 1..4 {
+        let word = words[at + k];
+        if word != 0 {
+            return Some(64 * k + word.trailing_zeros() as usize);
         }
     }
     None

@@ -2,12 +2,12 @@
 ghost use Rattle.std.specs.Prelude.{◌≡◌, map};
 ghost use Rattle.std.specs.List.{slice_get};
 ghost use Rattle.std.specs.Option.{option_map};
-ghost use Rattle.lines.specs.Values.{item_value, number_value, export_value, partial_value, site_value, symbol_value};
+ghost use Rattle.lines.specs.Values.{line_value, item_value, number_value, export_value, partial_value, site_value, symbol_value};
 ghost use Rattle.tables.specs.declared.thing.Thing.TheVariants.{Item, Export, Partial, Site, Symbol};
 ghost use Rattle.texts.specs.Rows.{numbered_by, module_value, entry_value, text_value};
-ghost use Rattle.textparts.specs.Places.{letter_of, lines_in, line_in, line_of_thing};
+ghost use Rattle.textparts.specs.Places.{letter_of, lines_in, line_in};
 
-use lines::{ExportLine, ItemLine, PartialLine, SiteLine, SymbolLine};
+use lines::{ExportLine, ItemLine, Line, PartialLine, SiteLine, SymbolLine};
 use tables::thing::{ModuleList, Thing};
 use texts::{EntryRow, ModuleRow, Numbered, TextRows};
 
@@ -93,18 +93,50 @@ pub fn symbol_line<'r>(rows: &'r TextRows, s: usize) -> Option<&'r Numbered<Symb
     rows.symbols.get(s)
 }
 
-// The number of the line that a thing stands in.
-pub fn line_of(rows: &TextRows, thing: Thing) -> Option<usize>
-    ensures { result ≡ line_of_thing (text_value rows.now) thing }
+// The line of an item, which its list gives the letter.
+fn line_of_item<'t>(list: ModuleList, item: Numbered<u32>) -> Numbered<Line<'t>>
+    ensures { numbered_by line_value result ≡ numbered_by (number_value (letter_of list)) item }
+{
+    let number = item.line;
+    let line = match list {
+        ModuleList::Loads => Line::Load(ItemLine { number }),
+        ModuleList::Dependencies => Line::Dependency(ItemLine { number }),
+        ModuleList::Resolved => Line::Resolved(ItemLine { number }),
+        ModuleList::References => Line::Reference(ItemLine { number }),
+    };
+    Numbered {
+        number: item.number,
+        line,
+    }
+}
+
+// A line with its number.
+fn numbered<'t>(number: usize, line: Line<'t>) -> Numbered<Line<'t>>
+    ensures { result ≡ record { number = number; line = line.entry } }
+{
+    Numbered { number, line }
+}
+
+// The line that a thing stands in, with its number, or none where the thing is not there.
+pub fn line_of<'t>(rows: &TextRows<'t>, thing: Thing) -> Option<Numbered<Line<'t>>>
+    ensures { option_map (numbered_by line_value) result ≡ line_in (text_value rows.now) thing }
 {
     match thing {
-        Thing::Header => Some(rows.head.number),
-        Thing::Module(m) => module_row(rows, m).map(|row| row.head.number),
-        Thing::Item(list, m, i) => item_line(rows, list, m, i).map(|n| n.number),
-        Thing::Export(m, i) => export_line(rows, m, i).map(|n| n.number),
-        Thing::Partial(m, i) => partial_line(rows, m, i).map(|n| n.number),
-        Thing::Entry(e) => entry_row(rows, e).map(|row| row.head.number),
-        Thing::Site(e, i) => site_line(rows, e, i).map(|n| n.number),
-        Thing::Symbol(s) => symbol_line(rows, s).map(|n| n.number),
+        Thing::Header => Some(numbered(rows.head.number, Line::Table(rows.head.line))),
+        Thing::Module(m) => {
+            module_row(rows, m).map(|row| numbered(row.head.number, Line::Module(row.head.line)))
+        }
+        Thing::Item(list, m, i) => item_line(rows, list, m, i).map(|n| line_of_item(list, n)),
+        Thing::Export(m, i) => {
+            export_line(rows, m, i).map(|n| numbered(n.number, Line::Export(n.line)))
+        }
+        Thing::Partial(m, i) => {
+            partial_line(rows, m, i).map(|n| numbered(n.number, Line::Partial(n.line)))
+        }
+        Thing::Entry(e) => {
+            entry_row(rows, e).map(|row| numbered(row.head.number, Line::Entry(row.head.line)))
+        }
+        Thing::Site(e, i) => site_line(rows, e, i).map(|n| numbered(n.number, Line::Site(n.line))),
+        Thing::Symbol(s) => symbol_line(rows, s).map(|n| numbered(n.number, Line::Symbol(n.line))),
     }
 }

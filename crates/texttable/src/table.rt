@@ -136,8 +136,8 @@ impl<'t> LinkTable<'t> for TextTable<'t> {
     }
 
     fn place_of(&mut self, thing: Thing, field: Field) -> Option<TextPlace> {
-        line_of(&self.rows, thing).map(|line| TextPlace {
-            line,
+        line_of(&self.rows, thing).map(|n| TextPlace {
+            line: n.number,
             column: line_column(thing, field),
         })
     }

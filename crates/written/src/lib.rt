@@ -38,7 +38,9 @@ pub fn field_text(v: Option<usize>) -> [u8; 6]
 pub fn line_text(heap: Global, letter: u8, fields: &[Option<usize>]) -> Result<Vec<u8>, AllocError>
     ensures { IfOk result (λ v. v.items ≡ fields_line letter fields.now) }
 {
-    let mut out = vec![in heap; letter]?;
+    // no `vec!` of the letter: it takes one byte, and the next field would ask for memory again
+    let mut out = Vec::new(heap);
+    out.push(letter)?;
     for f in fields {
         out.extend_from_slice(&field_text(*f))?;
     }

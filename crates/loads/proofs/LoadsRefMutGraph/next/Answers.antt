@@ -1,6 +1,6 @@
 use Rattle.std.proofs.Common.{◌^◌, ◌<◌, ◌≤◌, ap, ◌∙◌, arith}
 use Rattle.loads.proofs.Asks.{slot_empty, slot_found, slots_empty}
-use Rattle.loads.proofs.LoadsGraph.next.Goals as goal
+use Rattle.loads.proofs.LoadsRefMutGraph.next.Goals as goal
 
 pub loop-i-preserved : goal.loop-i-preserved
 loop-i-preserved g c =

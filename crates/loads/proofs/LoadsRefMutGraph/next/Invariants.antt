@@ -1,6 +1,6 @@
 use Rattle.std.proofs.Common.{◌≡◌}
 use Rattle.loads.proofs.Asks.{Empty}
-use Rattle.loads.proofs.LoadsGraph.next.Given as goal
+use Rattle.loads.proofs.LoadsRefMutGraph.next.Given as goal
 
 abbrev pub invariant-loop-i : goal.invariant-loop-i
 invariant-loop-i g l =

@@ -1,0 +1,25 @@
+-- A chain that comes to its end within as many links as there are symbols is one that ends.
+use Rattle.std.proofs.Common.{◌≡◌, ℕ, Bool, true, false, not, length, Option, sym, refl, ap, ◌∙◌}
+use Rattle.tables.specs.Value.{Table}
+use Rattle.tables.specs.View.{view}
+use Rattle.tables.specs.Links.{canon, endless}
+use Rattle.tables.specs.declared.fault.Cause.TheVariants.{EndlessLinks}
+use Rattle.tables.specs.declared.thing.Field.{Field}
+use Rattle.tables.specs.declared.thing.Field.TheVariants as field
+use Rattle.tables.specs.declared.thing.Thing.{Thing}
+use Rattle.tables.specs.declared.thing.Thing.TheVariants as thing
+use Rattle.asks.specs.Walked.{ends_within}
+use Rattle.definitions.specs.Checks.{unless, fault_at}
+use Rattle.checks.specs.Linked.{chain_checked}
+
+twice : (b : Bool) → not (not b) ≡ b
+twice true = refl
+twice false = refl
+
+ends_told : (t : Table) (n s : ℕ) → n ≡ length t.symbols → ends_within (view t) n s ≡ not (endless (view t) s)
+unfolding endless canon ends_within view
+ends_told t n s e = ap (λ k. ends_within (view t) k s) e ∙ sym (twice (ends_within (view t) (length t.symbols) s))
+
+pub chain_told : {P : Type 0} (place : Thing → Field → Option P) (t : Table) (n s : ℕ) → n ≡ length t.symbols →
+    chain_checked place (view t) n s ≡ unless (not (endless (view t) s)) (fault_at place (EndlessLinks s) (thing.Symbol s) field.Whole)
+chain_told place t n s e = ap (λ b. unless b (fault_at place (EndlessLinks s) (thing.Symbol s) field.Whole)) (ends_told t n s e)
