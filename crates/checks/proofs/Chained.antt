@@ -11,12 +11,12 @@ use Rattle.tables.specs.declared.thing.Thing.{Thing}
 use Rattle.tables.specs.declared.thing.Thing.TheVariants as thing
 use Rattle.asks.specs.Walked.{ends_within}
 use Rattle.definitions.specs.Checks.{unless, fault_at}
-use Rattle.checks.specs.Linked.{chain_checked}
+use Rattle.checks.specs.Linked.{chain_checked, chain_checked_within}
 
 within_is_ending : (t : Table) (n s : ℕ) → n ≡ length t.symbols → ends_within (view t) n s ≡ not (endless (view t) s)
 unfolding endless canon ends_within view
 within_is_ending t n s e = ap (λ k. ends_within (view t) k s) e ∙ sym (not-not (ends_within (view t) (length t.symbols) s))
 
 pub chain_told : {P : Type 0} (place : Thing → Field → Option P) (t : Table) (n s : ℕ) → n ≡ length t.symbols →
-    chain_checked place (view t) n s ≡ unless (not (endless (view t) s)) (fault_at place (EndlessLinks s) (thing.Symbol s) field.Whole)
+    chain_checked_within place (view t) n s ≡ chain_checked place (view t) s
 chain_told place t n s e = ap (λ b. unless b (fault_at place (EndlessLinks s) (thing.Symbol s) field.Whole)) (within_is_ending t n s e)

@@ -2,7 +2,7 @@
 ghost use Rattle.std.specs.Prelude.{◌≡◌};
 ghost use Rattle.tables.specs.View.{view};
 ghost use Rattle.definitions.specs.Checks.{links_checked};
-ghost use Rattle.checks.specs.Linked.{chain_checked};
+ghost use Rattle.checks.specs.Linked.{chain_checked_within};
 
 use asks::ends_within;
 use checkparts::each::{Check, check_each};
@@ -19,7 +19,7 @@ struct Chains {
 }
 
 impl<'t, T: LinkTable<'t>> Check<'t, T> for Chains {
-    ghost says = { λ c v s. chain_checked v.place (view v.table) c.links s };
+    ghost says = { λ c v s. chain_checked_within v.place (view v.table) c.links s };
 
     fn check(&self, table: &mut T, s: usize) -> Result<(), Fault<T::Place>> {
         let ends = ends_within(table, self.links, s);

@@ -116,42 +116,43 @@ module _ (ws : List ℕ) (at : ℕ) (fits : at + 4 ≤ length ws) where
 
     -- ---- whether it has none
 
-    pub empty_is : (r : Bool) → r ≡ fold (λ all w. all && eqb w 0) true row → IsTrue r ↔ ((i : ℕ) → i < 256 → has ws at i ≡ false)
+    pub empty_is : (r : Bool) → r ≡ list_all (λ w. eqb w 0) row → IsTrue r ↔ ((i : ℕ) → i < 256 → has ws at i ≡ false)
     empty_is r is = (
-      λ t i l. let long = row_length in row_has i l ∙ ap (λ (x : ℕ). bit x (i % 64)) (All-get_or zero_word row (i / 64) 0 (omega arith) (decides.0 (sym all ∙ t))) ∙ zero_bit (i % 64),
-      λ h. let long = row_length in all ∙ decides.1 (All-from_get_or zero_word row 0 (λ q l. same_bits (get_or row q 0) 0 (word_small q (omega arith)) (omega arith) (λ k m. none h q k (omega arith) m))),
+      λ t i l. let long = row_length in row_has i l ∙ ap (λ (x : ℕ). bit x (i % 64)) (All-get_or zero_word row (i / 64) 0 (omega arith) (decides.0 (sym is ∙ t))) ∙ zero_bit (i % 64),
+      λ h. let long = row_length in is ∙ decides.1 (All-from_get_or zero_word row 0 (λ q l. same_bits (get_or row q 0) 0 (word_small q (omega arith)) (omega arith) (λ k m. none h q k (omega arith) m))),
     )
       where
-        all : r ≡ list_all (λ w. eqb w 0) row
-        all = is ∙ all_by_fold (λ w. eqb w 0) true row
-
         decides : (list_all (λ w. eqb w 0) row ≡ true → All zero_word row) × (All zero_word row → list_all (λ w. eqb w 0) row ≡ true)
         decides = Decides-by_and (λ w. eqb w 0) zero_word (list_all (λ w. eqb w 0)) (λ w. Decides-eqb w 0) refl (λ _ _. refl) row
 
         none : ((i : ℕ) → i < 256 → has ws at i ≡ false) → (q k : ℕ) → q < 4 → k < 64 → bit (get_or row q 0) k ≡ bit 0 k
         none h q k l m = ap (λ (x : ℕ). bit x k) (row_word q l) ∙ sym (has_at ws at q k m) ∙ h (64 * q + k) (omega arith) ∙ sym (zero_bit k)
 
+    pub empty_by_fold : (r : Bool) → r ≡ fold (λ all w. all && eqb w 0) true row → IsTrue r ↔ ((i : ℕ) → i < 256 → has ws at i ≡ false)
+    empty_by_fold r is = empty_is r (is ∙ all_by_fold (λ w. eqb w 0) true row)
+
 -- ---- whether two rows are the same
 
 pub same_is : (ws : List ℕ) (a b : ℕ) (fa : a + 4 ≤ length ws) (fb : b + 4 ≤ length ws) → Typed ws → (r : Bool)
-    → r ≡ fold (λ all p. all && eqb p.0 p.1) true (zip (between a (a + 4) ws) (between b (b + 4) ws)) → IsTrue r ↔ ((i : ℕ) → i < 256 → has ws a i ≡ has ws b i)
+    → r ≡ bytes_eq (between a (a + 4) ws) (between b (b + 4) ws) → IsTrue r ↔ ((i : ℕ) → i < 256 → has ws a i ≡ has ws b i)
 same_is ws a b fa fb typed r is = (
-  λ t i l. row_has ws a fa i l ∙ ap (λ (xs : List ℕ). bit (get_or xs (i / 64) 0) (i % 64)) (decides.0 (sym all ∙ t)) ∙ sym (row_has ws b fb i l),
-  λ h. all ∙ decides.1 (same_number_lists _ _ long (λ q l. let long = row_length ws a fa in word h q (omega arith))),
+  λ t i l. row_has ws a fa i l ∙ ap (λ (xs : List ℕ). bit (get_or xs (i / 64) 0) (i % 64)) (decides.0 (sym is ∙ t)) ∙ sym (row_has ws b fb i l),
+  λ h. is ∙ decides.1 (same_number_lists _ _ (row_length ws a fa ∙ sym (row_length ws b fb)) (λ q l. let long = row_length ws a fa in word h q (omega arith))),
 )
   where
-    long : length (row ws a fa) ≡ length (row ws b fb)
-    long = row_length ws a fa ∙ sym (row_length ws b fb)
-
-    all : r ≡ bytes_eq (row ws a fa) (row ws b fb)
-    all = is ∙ all_by_fold (λ p. eqb p.0 p.1) true (zip (row ws a fa) (row ws b fb)) ∙ pairs_eq _ _ long
-
     decides : (bytes_eq (row ws a fa) (row ws b fb) ≡ true → row ws a fa ≡ row ws b fb) × (row ws a fa ≡ row ws b fb → bytes_eq (row ws a fa) (row ws b fb) ≡ true)
     decides = bytes_eq-Decides (row ws a fa) (row ws b fb)
 
     word : ((i : ℕ) → i < 256 → has ws a i ≡ has ws b i) → (q : ℕ) → q < 4 → get_or (row ws a fa) q 0 ≡ get_or (row ws b fb) q 0
     word h q l = same_bits _ _ (word_small ws a fa typed q l) (word_small ws b fb typed q l) (λ k m.
         ap (λ (x : ℕ). bit x k) (row_word ws a fa q l) ∙ sym (has_at ws a q k m) ∙ h (64 * q + k) (omega arith) ∙ has_at ws b q k m ∙ ap (λ (x : ℕ). bit x k) (sym (row_word ws b fb q l)))
+
+pub same_by_fold : (ws : List ℕ) (a b : ℕ) (fa : a + 4 ≤ length ws) (fb : b + 4 ≤ length ws) → Typed ws → (r : Bool)
+    → r ≡ fold (λ all p. all && eqb p.0 p.1) true (zip (between a (a + 4) ws) (between b (b + 4) ws)) → IsTrue r ↔ ((i : ℕ) → i < 256 → has ws a i ≡ has ws b i)
+same_by_fold ws a b fa fb typed r is =
+    same_is ws a b fa fb typed r
+    (is ∙ all_by_fold (λ p. eqb p.0 p.1) true (zip (row ws a fa) (row ws b fb))
+    ∙ pairs_eq _ _ (row_length ws a fa ∙ sym (row_length ws b fb)))
 
 -- ---- the next number of a row: `rest` is the row's word k from the bit of i on, where i is a number of that word
 
