@@ -10,6 +10,7 @@ use Rattle.tables.specs.declared.thing.Thing.{Thing}
 use Rattle.tables.specs.declared.thing.Thing.TheVariants as thing
 use Rattle.definitions.specs.Checks.{Checked, unless, fault_at}
 
+-- that it has an end
 abbrev pub chain_checked : {P : Type 0} → (Thing → Field → Option P) → View → ℕ → Checked P
 chain_checked place t s = unless (not (endless t s)) (fault_at place (EndlessLinks s) (thing.Symbol s) field.Whole)
 
